@@ -1,0 +1,19 @@
+-- Document 01 as definitions, in reading order. Nothing here is proved: it is what a reader has to believe.
+pub mod Number
+pub mod Kind
+pub mod Sheet
+pub mod Level
+pub mod Check
+pub mod BitVector
+pub mod Meaning
+pub mod Diagram
+pub mod Table
+pub mod Step
+pub mod Row
+pub mod Formula
+pub mod Run
+pub mod Solve
+pub mod Lent
+pub mod Value
+pub mod Witness
+pub mod Program
