@@ -28,13 +28,13 @@ pub data Operand : Type 0 where
 
 -- the column "Widths" of 01's table
 pub data Widths : Type 0 where
-  any : Widths        -- nothing is asked
-  below : Widths      -- a constant: the value is below 2^width
-  equal : Widths      -- every operand that is a term has the entry's own width
-  sum : Widths        -- the operands' widths add up to the entry's
-  span : Widths       -- extract: u − l + 1, and u inside the operand
-  notWider : Widths   -- no operand is wider than the entry
-  alike : Widths      -- the operands' widths are one another's
+  any : Widths  -- nothing is asked
+  below : Widths  -- a constant: the value is below 2^width
+  equal : Widths  -- every operand that is a term has the entry's own width
+  sum : Widths  -- the operands' widths add up to the entry's
+  span : Widths  -- extract: u − l + 1, and u inside the operand
+  notWider : Widths  -- no operand is wider than the entry
+  alike : Widths  -- the operands' widths are one another's
 
 pub record Rule : Type 0 where
   pub number : ℕ

@@ -3,11 +3,13 @@
 --   order es       the variables' bits in level order
 --   level es i b   the level of bit b of variable entry i
 --   levels es      how many levels there are
+--   valueOf es ρ i the value of variable entry i where ρ says each level's bit
 use Prim.Native.Nat.{ℕ, zero, suc, _+_}
 use mathlib.Core.Bool.{Bool, cond, _&&_}
 use mathlib.Core.List.{List, [], _∷_, _++_}
 use lib.Dec.{eqb, ltb}
 use lib.ListN.{length}
+use Rattle.meaning.specs.Number.{number, upTo}
 use Rattle.meaning.specs.Kind.{Sort}
 use Rattle.meaning.specs.Sheet.{Entry, entry}
 
@@ -46,10 +48,14 @@ order es = orderFrom 0 32 es
 -- the first place at which bit b of entry i stands, or the length
 abbrev pub find : ℕ → ℕ → List Spot → ℕ
 find i b [] = 0
-find i b (p ∷ ps) = let rest = 1 + find i b ps in cond (eqb (p .entry) i && eqb (p .bit) b) 0 rest
+find i b (p ∷ ps) = let rest = suc (find i b ps) in cond (eqb (p .entry) i && eqb (p .bit) b) 0 rest
 
 unfoldable pub level : List Entry → ℕ → ℕ → ℕ
 level es i b = find i b (order es)
 
 unfoldable pub levels : List Entry → ℕ
 levels es = length (order es)
+
+-- 0 where entry i is no variable
+unfoldable pub valueOf : List Entry → (ℕ → Bool) → ℕ → ℕ
+valueOf es ρ i = number (upTo (λ b. ρ (level es i b)) (variableBits (entry es i)))

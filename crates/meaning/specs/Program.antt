@@ -8,10 +8,9 @@ use mathlib.Core.Bool.{Bool, true, false, cond}
 use mathlib.Core.List.{List, [], _∷_, _++_}
 use lib.Dec.{eqb, ltb}
 use lib.ListN.{take}
-use Rattle.meaning.specs.Number.{number, upTo}
 use Rattle.meaning.specs.Kind.{Sort}
 use Rattle.meaning.specs.Sheet.{Entry, entries}
-use Rattle.meaning.specs.Level.{level}
+use Rattle.meaning.specs.Level.{valueOf}
 use Rattle.meaning.specs.Diagram.{Assignment}
 use Rattle.meaning.specs.Table.{cells}
 use Rattle.meaning.specs.Solve.{Solved, after, solveUnnamed, workNeeded}
@@ -49,20 +48,16 @@ verdictWord v = cond (eqb v 1) "sat" (cond (eqb v 2) "unsat" "unknown")
 
 -- ---- the values of the variables
 
--- variable entry i's value under ρ
-unfoldable pub valueOf : List Entry → Assignment → ℕ → ℕ → ℕ
-valueOf es ρ i w = number (upTo (λ b. ρ (level es i b)) w)
-
 -- one line a variable entry, from entry number i on
-abbrev pub entryLine : List Entry → Assignment → ℕ → Sort → ℕ → List ℕ
-entryLine es ρ i Sort.variable w = text "entry " ++ decimal i ++ line " value " (valueOf es ρ i w)
-entryLine es ρ i Sort.term w = []
-entryLine es ρ i Sort.formula w = []
-entryLine es ρ i Sort.neither w = []
+abbrev pub entryLine : List Entry → Assignment → ℕ → Sort → List ℕ
+entryLine es ρ i Sort.variable = text "entry " ++ decimal i ++ line " value " (valueOf es ρ i)
+entryLine es ρ i Sort.term = []
+entryLine es ρ i Sort.formula = []
+entryLine es ρ i Sort.neither = []
 
 abbrev pub entryLines : List Entry → Assignment → ℕ → List Entry → List ℕ
 entryLines es ρ i [] = []
-entryLines es ρ i (e ∷ rest) = entryLine es ρ i (e .rule .sort) (e .width) ++ entryLines es ρ (suc i) rest
+entryLines es ρ i (e ∷ rest) = entryLine es ρ i (e .rule .sort) ++ entryLines es ρ (suc i) rest
 
 -- ---- the listing
 
@@ -84,7 +79,7 @@ listing s =
     let values = entryLines es (mustWitness a) 0 es in
     let end : List ℕ = [] in
     let rest = text "verdict " ++ text (verdictWord (a .verdict)) ++ newline ++ line "must " (a .must) ++ line "may " (a .may) ++
-        line "slots " (a .used) ++ cond (eqb (a .verdict) 1) values end in
+    line "slots " (a .used) ++ cond (eqb (a .verdict) 1) values end in
     line "answer " (a .number) ++ cond (eqb (a .number) 0) rest end
 
 unfoldable pub program : List ℕ → List ℕ

@@ -137,12 +137,12 @@ addFrom n L carry sums (known a ∷ ar) (known b ∷ br) = do
   x ← step n isXor a b unused
   s ← step n isXor x carry unused
   let sums′ = sums ++ (s ∷ []) in
-    let cut = done (unknowns (suc (length ar))) in
-    let rest = (do
-      c ← nextCarry n x a b carry ar
-      sr ← addFrom n L c sums′ ar br
-      done (known s ∷ sr)) in
-    cond (ltb L (count (counted sums′ carry))) cut rest
+      let cut = done (unknowns (suc (length ar))) in
+      let rest = (do
+        c ← nextCarry n x a b carry ar
+        sr ← addFrom n L c sums′ ar br
+        done (known s ∷ sr)) in
+      cond (ltb L (count (counted sums′ carry))) cut rest
 addFrom n L carry sums (known a ∷ ar) (unknown ∷ br) = done (unknowns (suc (length ar)))
 addFrom n L carry sums (unknown ∷ ar) (b ∷ br) = done (unknowns (suc (length ar)))
 

@@ -64,16 +64,30 @@ refused r = record { number = r; verdict = 0; must = 0; may = 0; used = 0; table
 -- 11: the steps need more nodes than slots; table and work buffer are all zeros
 abbrev pub noRoom : ℕ → ℕ → Solved
 noRoom table work =
-    record { number = 11; verdict = 0; must = 0; may = 0; used = 0
-           ; table = filled (replicate table 0); work = filled (replicate work 0) }
+    record {
+      number = 11;
+      verdict = 0;
+      must = 0;
+      may = 0;
+      used = 0;
+      table = filled (replicate table 0);
+      work = filled (replicate work 0);
+    }
 
 -- the table holds the nodes and then zeros, the work buffer zeros
 abbrev pub answered : ℕ → ℕ → Table → Pair → Solved
 answered table work nodes p =
     let must = enter (p .must) nodes .number in
     let may = enter (p .may) nodes .number in
-    record { number = 0; verdict = verdictOf must may; must = must; may = may; used = length nodes
-           ; table = filled (layAll nodes ++ replicate (table - cells * length nodes) 0); work = filled (replicate work 0) }
+    record {
+      number = 0;
+      verdict = verdictOf must may;
+      must = must;
+      may = may;
+      used = length nodes;
+      table = filled (layAll nodes ++ replicate (table - cells * length nodes) 0);
+      work = filled (replicate work 0);
+    }
 
 -- a sheet and buffers that pass 1 to 10
 unfoldable pub worked : List Entry → ℕ → ℕ → ℕ → Solved

@@ -4,7 +4,7 @@ use mathlib.Core.List.{List, [], _∷_, _++_, map}
 use lib.ListN.{length, take}
 use Rattle.meaning.specs.Kind.{rules, ruleOf}
 use Rattle.meaning.specs.Sheet.{entries, operands}
-use Rattle.meaning.specs.Level.{order, level, levels}
+use Rattle.meaning.specs.Level.{order, level, levels, valueOf}
 use Rattle.meaning.specs.Check.{short, entryRefusal, meaningRefusal, check}
 use Rattle.meaning.specs.BitVector.{shiftBy}
 use Rattle.meaning.specs.Diagram.{diagram}
@@ -17,7 +17,7 @@ use Rattle.meaning.specs.Solve.{Solved, solve, inputRefusal, worked, unn
 use Rattle.meaning.specs.Lent.{badNodes, treeOf}
 use Rattle.meaning.specs.Value.{value, valueRefusal}
 use Rattle.meaning.specs.Witness.{witness, witnessRefusal}
-use Rattle.meaning.specs.Program.{valueOf, listing, program}
+use Rattle.meaning.specs.Program.{listing, program}
 
 -- ---- writing a sheet
 
