@@ -307,6 +307,20 @@ CASES = [
     ("unknown bits: masked by and, or, then negated, width 2",
      [var(2), ent(4, 2, 0), con(2, 1), ent(5, 2, 1, 2), ent(6, 2, 3, 1), ent(7, 2, 4, 0), ent(15, 4, 5), ent(14, 4, 5),
       ent(34, 0, 6, 7)], [(0, 2048), (2048, 2048)]),
+    ("shared nodes count once: x sign-extended to 3, plus 0, is 0",
+     [var(1), ent(15, 3, 0), con(3, 0), ent(8, 3, 1, 2), ent(34, 0, 3, 2)], [(1, 2048), (0, 2048)]),
+    ("no known bit above an unknown carry: (x over x + y) plus 0 is 0",
+     [var(1), var(1), ent(8, 1, 0, 1), ent(12, 2, 0, 2), con(2, 0), ent(8, 2, 3, 4), ent(34, 0, 5, 4)], [(0, 2048)]),
+    ("must is not may: not (x + y is 0), limit 2", [*A, ent(40, 0, 4)], [(2, 2048), (3, 2048)]),
+    ("moved bits: shift right, concat, extract, or, false, forall",
+     [var(3), ent(11, 3, 0, extra=[4]), var(1), ent(12, 4, 2, 1), ent(13, 2, 3, extra=[3, 2]), con(2, 2), ent(34, 0, 4, 5),
+      ent(33, 0), ent(42, 0, 6, 7), ent(49, 0, 0, 8)], [(0, 2048)]),
+    ("a variable bound twice, the innermost counts: exists x (x is 1 and forall x, x at most 1), width 1",
+     [var(1), con(1, 1), ent(34, 0, 0, 1), ent(35, 0, 0, 1), ent(49, 0, 0, 3), ent(41, 0, 2, 4), ent(48, 0, 0, 5)],
+     [(0, 2048)]),
+    ("an entry that the last one doesn't need is worked too", [var(2), ent(4, 2, 0), ent(32, 0)],
+     [(2048, 2048), (2048, 4), (2048, 3)]),
+    ("levels: x of width 2 before y of width 1 is x0, y0, x1", [var(2), var(1), ent(15, 2, 1), ent(34, 0, 0, 2)], [(0, 2048)]),
 ]
 
 if __name__ == "__main__":

@@ -82,6 +82,30 @@ pub data Case : Type 0 where
   -- witness: table, used, number, first contents of the buffer; wanted: number, then the buffer
   witnessed : List ℕ → ℕ → ℕ → List ℕ → List ℕ → Case
 
+-- ---- short forms for lists of cases
+
+-- 2,048 slots, and a work buffer that is just long enough
+abbrev pub at : List ℕ → ℕ → List ℕ → Case
+at s limit w = solved s limit (3 * 2048) 8192 w
+
+abbrev pub atSlots : List ℕ → ℕ → ℕ → List ℕ → Case
+atSlots s limit slots w = solved s limit (3 * slots) 8192 w
+
+-- number 0, then verdict, must, may and the slots used
+abbrev pub sat : ℕ
+sat = 1
+
+abbrev pub unsat : ℕ
+unsat = 2
+
+abbrev pub unknown : ℕ
+unknown = 3
+
+abbrev pub refused : ℕ → List ℕ
+refused r = r ∷ 0 ∷ 0 ∷ 0 ∷ 0 ∷ []
+
+-- ---- answering
+
 abbrev pub numbers : Solved → List ℕ
 numbers a = a .number ∷ a .verdict ∷ a .must ∷ a .may ∷ a .used ∷ take (cells * a .used) (after (a .table) [])
 

@@ -1,29 +1,9 @@
 -- Cases 1 to 9 of "Both sides of each edge", with sheet A's slots and listing, as one statement.
-use Prim.Native.Nat.{ℕ, _*_}
+use Prim.Native.Nat.{ℕ}
 use mathlib.Core.Path.{_≡_, refl}
 use mathlib.Core.List.{List, [], _∷_, _++_}
 use Rattle.meaning.specs.Program.{text}
-use Rattle.meaning.proofs.Cases.Asked.{sheet, var, con, part, op₀, op₁, op₂, two, Case, solved, printed, answers, wanteds}
-
--- 2,048 slots, and a work buffer that is just long enough
-abbrev at : List ℕ → ℕ → List ℕ → Case
-at s limit w = solved s limit (3 * 2048) 8192 w
-
-abbrev atSlots : List ℕ → ℕ → ℕ → List ℕ → Case
-atSlots s limit slots w = solved s limit (3 * slots) 8192 w
-
--- number 0, then verdict, must, may and the slots used
-abbrev sat : ℕ
-sat = 1
-
-abbrev unsat : ℕ
-unsat = 2
-
-abbrev unknown : ℕ
-unknown = 3
-
-abbrev refused : ℕ → List ℕ
-refused r = r ∷ 0 ∷ 0 ∷ 0 ∷ 0 ∷ []
+use Rattle.meaning.proofs.Cases.Asked.{sheet, var, con, part, op₀, op₁, op₂, two, Case, printed, answers, wanteds, at, atSlots, sat, unsat, unknown, refused}
 
 -- x and y of width 1, x + y, constant 0, equal: 34 bytes, places 22, 22, 22, 26, 30
 abbrev pub A : List ℕ
