@@ -2,3 +2,9 @@
 pub mod Shape
 pub mod Plain
 pub mod Fits
+pub mod Number
+pub mod BitVector
+pub mod Diagram
+pub mod Apply
+pub mod Level
+pub mod Checked
