@@ -8,3 +8,7 @@ pub mod Diagram
 pub mod Apply
 pub mod Level
 pub mod Checked
+pub mod Table
+pub mod Lent
+pub mod Value
+pub mod Witness
