@@ -12,3 +12,15 @@ pub mod Table
 pub mod Lent
 pub mod Value
 pub mod Witness
+pub mod Row
+pub mod Bitwise
+pub mod Add
+pub mod Multiply
+pub mod Choose
+pub mod Formula
+pub mod Order
+pub mod Over
+pub mod Related
+pub mod Run
+pub mod Uncut
+pub mod Exact

@@ -19,6 +19,7 @@ use Rattle.meaning.specs.Level.{Spot, variableBits, having, orderFrom, o
 use Rattle.meaning.specs.Meaning.{bind, some, every}
 use Rattle.meaning.specs.Run.{downTo, levelsOf}
 use Rattle.meaning.specs.Diagram.{Assignment, put}
+use Rattle.meaning.proofs.Laws.Over.{over}
 use Rattle.meaning.proofs.Laws.Number.{number-lt, number-bits, bits-number, each-length, each-same}
 
 -- ---- find
@@ -261,11 +262,6 @@ module _ (f : Bool → Bool → Bool) (z : Bool) (laws : Gathers f z) where
       rw (add-suc n m, gather-add m n p, add-comm m n) (inner (p (n + m)) (gather f z n p) (gather f z m (λ x. p (x + n))))
 
 -- ---- over
-
--- both values tried at each of these levels, the first one's last
-abbrev pub over : (Bool → Bool → Bool) → List ℕ → (Assignment → Bool) → Assignment → Bool
-over f [] g ρ = g ρ
-over f (l ∷ ls) g ρ = over f ls (λ τ. f (g (put l false τ)) (g (put l true τ))) ρ
 
 over-gather : (f : Bool → Bool → Bool) (z : Bool) → Gathers f z →
     (es : List Entry) (i w : ℕ) (g : Assignment → Bool) (ρ : Assignment) →
