@@ -1,0 +1,20 @@
+-- Laws of the code's own vocabulary, by subject.
+pub mod Function
+pub mod Hash
+pub mod Cells
+pub mod Nodes
+pub mod After
+pub mod Index
+pub mod Cover
+pub mod Begin
+pub mod Grow
+pub mod Node
+pub mod Gives
+pub mod Parts
+pub mod Memo
+pub mod Step
+pub mod Quantify
+pub mod Count
+pub mod Lent
+pub mod Value
+pub mod Witness
