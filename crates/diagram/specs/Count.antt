@@ -13,6 +13,7 @@ use lib.Bits.{bitOr}
 use Rattle.meaning.specs.Number.{odd}
 use Rattle.meaning.specs.Diagram.{Tree}
 use Rattle.meaning.specs.Table.{Table, enter}
+use Rattle.meaning.specs.Solve.{slots}
 use Rattle.meaning.proofs.Laws.Table.{Is, Single, Falls}
 use Rattle.diagram.specs.State.{nodesOf}
 
@@ -63,7 +64,7 @@ pub record Counted (room : ℕ) (T : Table) (marks : List ℕ) (so-far : ℕ) (C
 -- number n can be visited: numbers fall below it, and there is a mark for each slot
 pub record Visitable (cells marks : List ℕ) (n : ℕ) : Type 0 where
   pub used : ℕ
-  pub room : 3 * used ≤ length cells
+  pub room : used ≤ slots (length cells)
   pub falls : Falls (nodesOf cells used)
   pub marks-room : used ≤ 32 * length marks
   pub inside : n < used + 2
@@ -77,4 +78,5 @@ pub record Tallied (room : ℕ) (T : Table) (limit : ℕ) (marks : List ℕ) (r 
 pub record Visited (cells marks : List ℕ) (n so-far limit : ℕ) (after : List ℕ) (r : ℕ) : Type 0 where
   pub grows : so-far ≤ r
   pub tallied : (room used : ℕ) (C : Table) (x : Tree) → Single (nodesOf cells used) → Is (nodesOf cells used) n x
-      → Counted room (nodesOf cells used) marks so-far C → Tallied room (nodesOf cells used) limit after r (enter x C .table)
+      → Counted room (nodesOf cells used) marks so-far C
+      → Tallied room (nodesOf cells used) limit after r (enter x C .table)

@@ -57,8 +57,8 @@ fn walk(t: &[Cell], n: u32, a: &[u8]) -> Valued
     Valued::Bit { bit: at, passed }
 }
 
-// The bit of diagram n under the assignment a, one byte a level, and the number of nodes passed; or the first cause met of
-// 9, 13, 14, 12, 16.
+// The bit of diagram n under the assignment a, one byte a level, and the number of nodes passed; or the first cause met
+// of 9, 13, 14, 12, 16.
 pub fn value(t: &[Cell], used: u32, n: u32, a: &[u8]) -> Valued
     ensures { λ r. ⌜ valued r ≡ value (now (t .entry)) used n (now (a .entry)) ⌝ }
 {

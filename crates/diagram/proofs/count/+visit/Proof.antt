@@ -7,8 +7,8 @@ use borrow.Author.Needs.{needs}
 use borrow.Fn.Kinds.{In}
 use borrow.Fn.PlainCycle.{Measures, is, falls, and}
 use Rattle.diagram.specs.State.{Inside}
-use Rattle.diagram.proofs.Laws.Count.{visited-terminal, visited-over, visited-marked, visited-stopped}
-use Rattle.diagram.proofs.Laws.Count.{Opened, visited-node, visitable-inside, opened-lower, visitable-lower}
+use Rattle.diagram.proofs.Laws.Visit.{visited-terminal, visited-over, visited-marked, visited-stopped}
+use Rattle.diagram.proofs.Laws.Visit.{Opened, visited-node, visitable-inside, opened-lower, visitable-lower}
 use Rattle.diagram.proofs.count.visit.Reads as visit
 use Rattle.diagram.proofs.count.visit.Kinds as visit-kinds
 use Rattle.diagram.proofs.count.+visit.Lts-visit as visit-lts

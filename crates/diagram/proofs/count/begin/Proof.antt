@@ -4,7 +4,7 @@ use native.Mathlib.Omega.{arith}
 use borrow.Author.Needs.{needs}
 use mathlib.Core.List.{List}
 use lib.ListN.{take, length-take}
-use Rattle.diagram.proofs.Laws.Count.{cleared}
+use Rattle.diagram.proofs.Laws.Mark.{cleared}
 use Rattle.diagram.proofs.count.begin.Statement.{statement}
 use Rattle.diagram.proofs.count.begin.Tie as tie
 

@@ -1,6 +1,6 @@
 -- `count::mark` meets its contract.
 use borrow.Author.Needs.{needs}
-use Rattle.diagram.proofs.Laws.Count.{mark-set}
+use Rattle.diagram.proofs.Laws.Mark.{mark-set}
 use Rattle.diagram.proofs.count.mark.Statement.{statement}
 use Rattle.diagram.proofs.count.mark.Tie as tie
 
