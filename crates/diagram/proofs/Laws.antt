@@ -5,29 +5,24 @@ pub mod Function
 pub mod Hash
 pub mod Cells
 pub mod Nodes
-
 -- states and the steps between them
 pub mod After
-
 -- find or add a node
 pub mod Index
 pub mod Cover
 pub mod Begin
 pub mod Grow
 pub mod Node
-
 -- the step and the quantifier step, with their memo
 pub mod Parts
 pub mod Memo
 pub mod Gives
 pub mod Step
 pub mod Quantify
-
 -- the count by marks
 pub mod Mark
 pub mod Count
 pub mod Visit
-
 -- lent tables, value, witness
 pub mod Lent
 pub mod Value

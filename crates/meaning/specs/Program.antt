@@ -72,15 +72,19 @@ bytesRead = 2563
 abbrev pub mustWitness : Solved → Assignment
 mustWitness a = assignment (after (witness (after (a .table) []) (a .used) (a .must) maxLevels .assignment) [])
 
+-- the answer line alone on a refusal; on sat also the variables' values under ρ
+unfoldable pub listed : ℕ → ℕ → ℕ → ℕ → ℕ → List Entry → Assignment → List ℕ
+listed number verdict must may used es ρ =
+    let values = entryLines es ρ 0 es in
+    let end : List ℕ = [] in
+    let rest = text "verdict " ++ text (verdictWord verdict) ++ newline ++ line "must " must ++ line "may " may ++ line "slots " used ++
+    cond (eqb verdict 1) values end in
+    line "answer " number ++ cond (eqb number 0) rest end
+
 unfoldable pub listing : List ℕ → List ℕ
 listing s =
     let a = solveUnnamed s (cells * programSlots) workNeeded in
-    let es = entries s in
-    let values = entryLines es (mustWitness a) 0 es in
-    let end : List ℕ = [] in
-    let rest = text "verdict " ++ text (verdictWord (a .verdict)) ++ newline ++ line "must " (a .must) ++ line "may " (a .may) ++
-    line "slots " (a .used) ++ cond (eqb (a .verdict) 1) values end in
-    line "answer " (a .number) ++ cond (eqb (a .number) 0) rest end
+    listed (a .number) (a .verdict) (a .must) (a .may) (a .used) (entries s) (mustWitness a)
 
 unfoldable pub program : List ℕ → List ℕ
 program input = listing (take bytesRead input)

@@ -17,7 +17,7 @@ use Rattle.meaning.specs.Solve.{Solved, solve, inputRefusal, worked, unn
 use Rattle.meaning.specs.Lent.{badNodes, treeOf}
 use Rattle.meaning.specs.Value.{value, valueRefusal}
 use Rattle.meaning.specs.Witness.{witness, witnessRefusal}
-use Rattle.meaning.specs.Program.{listing, program}
+use Rattle.meaning.specs.Program.{listed, listing, program}
 
 -- ---- writing a sheet
 
@@ -110,7 +110,7 @@ abbrev pub numbers : Solved → List ℕ
 numbers a = a .number ∷ a .verdict ∷ a .must ∷ a .may ∷ a .used ∷ take (cells * a .used) (after (a .table) [])
 
 unfoldable pub answer : Case → List ℕ
-unfolding rules ruleOf entries operands order level levels short entryRefusal meaningRefusal check shiftBy diagram count stepTree quantifyTree step quantify bitNot bitAnd bitOr bitXor counted add negate multiply choose equal atMost negation both quantified variable levelsOf workOf run solve inputRefusal worked unnamedLimit solveUnnamed badNodes treeOf value valueRefusal witness witnessRefusal valueOf listing program
+unfolding rules ruleOf entries operands order level levels short entryRefusal meaningRefusal check shiftBy diagram count stepTree quantifyTree step quantify bitNot bitAnd bitOr bitXor counted add negate multiply choose equal atMost negation both quantified variable levelsOf workOf run solve inputRefusal worked unnamedLimit solveUnnamed badNodes treeOf value valueRefusal witness witnessRefusal valueOf listed listing program
 answer (solved s L table work w) = numbers (solve s L table work)
 answer (tabled s L table work w) = after (solve s L (length table) work .table) table
 answer (cleared s L table work w) = after (solve s L table (length work) .work) work
