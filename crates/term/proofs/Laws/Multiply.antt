@@ -109,9 +109,10 @@ module _ {x : Declared.Row} {j y : ℕ} {low many : Declared.Row} (parted : Part
 
     pub partial-works : RowKnown b low × (RowKnown b many × (low .width ≡ many .width))
     partial-works =
-        let is-x = row-some alive known-x in
-        (row-known (low-means is-x),
-        (row-known (many-means is-x some-bit), parted .is-low .0 ∙ sym (parted .is-many .0)))
+        let is-x = row-some alive known-x in (
+          row-known (low-means is-x),
+          (row-known (many-means is-x some-bit), parted .is-low .0 ∙ sym (parted .is-many .0)),
+        )
 
   module _ {cells w cells′ w′ : List ℕ} {b b′ : Builder} {high : Declared.Row}
       (does : Works And low many cells w b cells′ w′ b′ high) where

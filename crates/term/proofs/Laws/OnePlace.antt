@@ -329,7 +329,9 @@ module _ {cells w marks : List ℕ} {limit : ℕ} {s : Sum} (summing : Summing c
     made .after .ready,
     (
       means-known (made .half-means),
-      (after-known (made .after) known-x,
-      (after-known (made .after) known-y, after-known (made .after) (summing .carry))),
+      (
+        after-known (made .after) known-x,
+        (after-known (made .after) known-y, after-known (made .after) (summing .carry)),
+      ),
     ),
   )
