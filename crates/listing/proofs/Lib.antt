@@ -1,0 +1,2 @@
+-- `Laws` are theorems about the definitions, by subject.
+pub mod Laws

@@ -1,0 +1,2 @@
+-- What stands in the buffer.
+pub mod Written

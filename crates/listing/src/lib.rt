@@ -1,0 +1,5 @@
+// What the program prints, written into a lent buffer: the listing of document 01.
+pub mod answer;
+pub mod entry;
+pub mod text;
+pub mod value;

@@ -1,0 +1,2 @@
+-- `Laws` has the laws of this crate.
+pub mod Laws
