@@ -23,7 +23,3 @@ pub mod Quantify
 pub mod Mark
 pub mod Count
 pub mod Visit
--- lent tables, value, witness
-pub mod Lent
-pub mod Value
-pub mod Witness

@@ -4,4 +4,3 @@ pub mod Hash
 pub mod Scratch
 pub mod State
 pub mod Count
-pub mod Lent

@@ -1,22 +1,16 @@
-// Diagrams in a lent table: the builder with its step and quantifier step, the count, value and witness.
+// Diagrams in a lent table: the builder with its step and quantifier step, and the count.
 //
 // number    the number of a diagram, and the constants false, true and unknown
-// table     how a node lies in the table
+// table     how a node lies in the table, and which lengths a table may have
 // function  functions of three diagrams as truth tables of eight rows
 // hash      places in scratch
 // scratch   the index by which a node is found, and the memo of steps
 // builder   find or add a node; one step; one quantifier step
 // count     the distinct nodes of some diagrams
-// lent      what a table that anybody may lend has to pass
-// value     a diagram's truth under an assignment
-// witness   the least assignment that a diagram accepts
 pub mod builder;
 pub mod count;
 pub mod function;
 pub mod hash;
-pub mod lent;
 pub mod number;
 pub mod scratch;
 pub mod table;
-pub mod value;
-pub mod witness;

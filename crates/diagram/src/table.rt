@@ -5,9 +5,24 @@ ghost use lib.ListN.{length};
 ghost use Rattle.meaning.specs.Lent.{nodeAt, levelOf, lowOf, highOf};
 ghost use mathlib.Core.Bool.{true, false};
 ghost use Rattle.meaning.specs.Table.{slot, alike};
+ghost use Rattle.meaning.specs.Solve.{badTable};
 ghost use Rattle.diagram.specs.State.{Inside, Readable, placed, topOf, partOf, partsOf};
 
 pub type Cell = u32;
+
+pub const LEVELS: u32 = 128;
+
+const MAX_CELLS: usize = 3145728;
+
+// 9: the table's length is no multiple of 3, or above 3,145,728.
+pub fn bad_length(t: &[Cell]) -> bool
+    ensures { λ r. ⌜ r ≡ badTable (length (now (t .entry))) ⌝ }
+{
+    if t.len() % 3 != 0 {
+        return true;
+    }
+    MAX_CELLS < t.len()
+}
 
 // How many nodes a table has room for.
 pub fn slots(t: &[Cell]) -> usize
@@ -80,13 +95,13 @@ pub fn is(t: &[Cell], k: usize, level: u32, low: u32, high: u32) -> bool
     high == self::high(t, k)
 }
 
-// Number n's level; 128 for a terminal.
+// Number n's level; LEVELS for a terminal.
 pub fn top(t: &[Cell], n: u32) -> u32
     requires { ⌜ Readable (now t) n ⌝ }
     ensures { λ r. ⌜ r ≡ topOf (now (t .entry)) n ⌝ }
 {
     if n < 2 {
-        return 128;
+        return LEVELS;
     }
     level(t, slot_of(n))
 }

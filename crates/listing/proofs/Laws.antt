@@ -4,3 +4,4 @@ pub mod Decimal
 pub mod Value
 pub mod Entry
 pub mod Listing
+pub mod Answered

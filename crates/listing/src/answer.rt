@@ -1,5 +1,5 @@
 // The listing: the answer line alone on a refusal; on sat also the variables' values.
-use crate::entry::put_entries;
+use crate::lines::put_entries;
 use crate::text::put_line;
 use crate::text::put_verdict;
 ghost use mathlib.Core.Path.{_≡_};

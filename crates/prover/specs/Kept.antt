@@ -1,23 +1,23 @@
--- The entries' values in a buffer, 32 numbers an entry, and what a run over all entries leaves.
+-- The run over all entries, whose values are kept in a buffer, 32 numbers an entry.
 --
 --   Reaches, Runs what the functions over such a buffer ask
---   Reads         a row is what stands in the buffer for an entry
---   Keeps         only one entry's numbers have changed
+--   Opened        an entry's body and how many operands it has, as read off the sheet
 --   OperandReads  a row is what stands in the buffer for an operand, where there is one
 --   Ran           what a run gives: the table, its last state and the numbers of must and may
-use Prim.Native.Nat.{ℕ, _+_, _*_, _/_, _≤_, _<_}
+use Prim.Native.Nat.{ℕ, _*_, _/_, _≤_, _<_}
 use mathlib.Core.Path.{_≡_}
 use mathlib.Core.Bool.{false}
 use mathlib.Core.List.{List}
 use lib.Dec.{ltb}
-use lib.ListN.{length, getD}
-use Rattle.meaning.specs.Sheet.{count, ruleAt, widthAt, entryAt, operand}
+use lib.ListN.{length}
+use Rattle.meaning.specs.Sheet.{count, ruleAt, widthAt, body, entryAt, operand}
 use Rattle.meaning.specs.Check.{check}
 use Rattle.meaning.proofs.Laws.Table.{Is}
 use Rattle.meaning.proofs.Laws.Solve.{nodesAt, pairAt}
 use Rattle.diagram.specs.State.{nodes}
 use Rattle.diagram.specs.declared.builder.Builder.{Builder}
 use Rattle.term.specs.declared.row.Row.{Row}
+use Rattle.entry.specs.Rows.{Reads}
 
 -- entry i of a sheet that has passed the check, and a buffer with room for every entry's row
 pub record Reaches (s kept : List ℕ) (i : ℕ) : Type 0 where
@@ -32,14 +32,9 @@ pub record Runs (s : List ℕ) (L : ℕ) (cells kept : List ℕ) : Type 0 where
   pub small : length cells ≤ 3145728
   pub limit : L < 4294967296
 
-pub record Reads (kept : List ℕ) (j width : ℕ) (row : Row) : Type 0 where
-  pub wide : row .width ≡ width
-  pub places : (k : ℕ) → k < 32 → getD (row .bits) k 0 ≡ getD kept (32 * j + k) 0
-
-pub record Keeps (kept : List ℕ) (i : ℕ) (row : Row) (kept′ : List ℕ) : Type 0 where
-  pub reads : Reads kept′ i (row .width) row
-  pub before : (m : ℕ) → m < 32 * i → getD kept′ m 0 ≡ getD kept m 0
-  pub behind : (m : ℕ) → 32 * i + 32 ≤ m → getD kept′ m 0 ≡ getD kept m 0
+pub record Opened (s : List ℕ) (i : ℕ) (own : List ℕ) (many : ℕ) : Type 0 where
+  pub body-is : own ≡ body s i
+  pub many-is : many ≡ length (ruleAt s i .operands)
 
 abbrev pub OperandReads : List ℕ → List ℕ → ℕ → ℕ → Row → Type 0
 OperandReads s kept i k row =

@@ -1,5 +1,3 @@
 -- What the promises of this crate say, beyond document 01's own definitions.
-pub mod Value
 pub mod Kept
 pub mod Answer
-pub mod Entry

@@ -1,48 +1,54 @@
 // Solve: refusals 1 to 11 in order, the run, and what is left in the buffers.
 ghost use mathlib.Core.Path.{_≡_};
 ghost use lib.ListN.{length};
-ghost use Rattle.meaning.specs.Solve.{badTable, inputRefusal, solve, solveUnnamed, unnamedLimit};
-ghost use Rattle.prover.specs.Kept.{Reaches, Runs, OperandReads, Ran};
+ghost use Rattle.meaning.specs.Solve.{inputRefusal, solve, solveUnnamed, unnamedLimit};
+ghost use Rattle.prover.specs.Kept.{Reaches, Runs, Opened, OperandReads, Ran};
 ghost use Rattle.prover.specs.Answer.{Roomy, Finishes, Meets};
 use crate::answer;
 use crate::answer::Answer;
-use crate::entry;
-use crate::entry::Operands;
-use crate::rows;
 use diagram::builder;
 use diagram::builder::Builder;
 use diagram::scratch;
+use diagram::table;
 use diagram::table::Cell;
+use entry::rows;
+use entry::value;
+use entry::value::Operands;
 use sheet::check;
 use sheet::read;
 use term::row::Row;
 
-// The value of operand k of entry i; nothing where there is no such operand.
-fn operand(s: &[u8], kept: &[u32], i: usize, k: usize) -> Row
+// The value of operand k of entry i, whose body this is and which has so many operands; nothing where there is no such
+// operand.
+fn operand(s: &[u8], kept: &[u32], i: usize, body: &[u8], many: usize, k: usize) -> Row
     requires { ⌜ Reaches (now s) (now kept) i ⌝ }
+    requires { ⌜ Opened (now s) i (now body) many ⌝ }
     ensures { λ r. ⌜ OperandReads (now (s .entry)) (now (kept .entry)) i k r ⌝ }
 {
-    let kind = read::kind(s, i);
-    if kind.operands <= k {
+    if many <= k {
         return Row {
             bits: [0u32; 32],
             width: 0,
         };
     }
-    let o = read::operand(read::body(s, i), k);
+    let o = read::operand(body, k);
     let width = read::width(s, o);
     rows::value_at(kept, o, width as usize)
 }
 
+// Kind and body are read once an entry.
 fn operands(s: &[u8], kept: &[u32], i: usize) -> Operands
     requires { ⌜ Reaches (now s) (now kept) i ⌝ }
     ensures { λ r. ⌜ OperandReads (now (s .entry)) (now (kept .entry)) i 0 (r .x) ×
         (OperandReads (now (s .entry)) (now (kept .entry)) i 1 (r .y) ×
         OperandReads (now (s .entry)) (now (kept .entry)) i 2 (r .z)) ⌝ }
 {
-    let x = operand(s, kept, i, 0);
-    let y = operand(s, kept, i, 1);
-    let z = operand(s, kept, i, 2);
+    let kind = read::kind(s, i);
+    let many = kind.operands as usize;
+    let body = read::part(s, i, kind.body as usize);
+    let x = operand(s, kept, i, body, many, 0);
+    let y = operand(s, kept, i, body, many, 1);
+    let z = operand(s, kept, i, body, many, 2);
     Operands { x, y, z }
 }
 
@@ -53,7 +59,7 @@ struct Outcome {
     may: u32,
 }
 
-// Every entry, in entry order, needed by the last one or not.
+// Every entry, in entry order, needed by the last one or not; but once a node had no slot, nothing that follows counts.
 fn run(s: &[u8], limit: usize, t: &mut [Cell], kept: &mut [u32], w: &mut [u32]) -> Outcome
     requires { ⌜ Runs (now s) limit (now t) (now kept) ⌝ }
     ensures { λ r. ⌜ Ran (now (s .entry)) limit (now (t .entry)) (now (t .exit)) (r .at) (r .must) (r .may) ⌝ }
@@ -63,8 +69,15 @@ fn run(s: &[u8], limit: usize, t: &mut [Cell], kept: &mut [u32], w: &mut [u32]) 
     let mut at = builder::begin(t, w);
     let mut i = 0;
     while i < n {
+        if at.full {
+            return Outcome {
+                at,
+                must: 0,
+                may: 0,
+            };
+        }
         let v = operands(s, kept, i);
-        let made = entry::work(at, t, w, &mut marks, limit, s, i, v);
+        let made = value::work(at, t, w, &mut marks, limit, s, i, v);
         at = made.at;
         let row = made.row;
         rows::keep(kept, i, row);
@@ -79,26 +92,21 @@ fn run(s: &[u8], limit: usize, t: &mut [Cell], kept: &mut [u32], w: &mut [u32]) 
 }
 
 // With the lent work buffer for the rows and scratch of our own, or, where more is lent than that, the other way round.
+// For a table of up to 2,048 slots scratch is our own, eight numbers a slot: less to clear.
 fn run_somewhere(s: &[u8], limit: usize, t: &mut [Cell], work: &mut [u32]) -> Outcome
     requires { ⌜ Runs (now s) limit (now t) (now work) ⌝ }
     ensures { λ r. ⌜ Ran (now (s .entry)) limit (now (t .entry)) (now (t .exit)) (r .at) (r .must) (r .may) ⌝ }
 {
+    if t.len() <= 6144 {
+        let mut own = [0u32; 16384];
+        return run(s, limit, t, work, &mut own);
+    }
     if work.len() <= 32768 {
         let mut own = [0u32; 32768];
         return run(s, limit, t, work, &mut own);
     }
     let mut kept = [0u32; 8192];
     run(s, limit, t, &mut kept, work)
-}
-
-// 9: the table's length is no multiple of 3, or above 1,048,576 slots.
-fn bad_table(t: &[Cell]) -> bool
-    ensures { λ r. ⌜ r ≡ badTable (length (now (t .entry))) ⌝ }
-{
-    if t.len() % 3 != 0 {
-        return true;
-    }
-    3145728 < t.len()
 }
 
 // The first refusal among 1 to 10, or 0.
@@ -109,7 +117,7 @@ fn refusal(s: &[u8], t: &[Cell], work: &[u32]) -> u32
     if checked != 0 {
         return checked;
     }
-    let bad = bad_table(t);
+    let bad = table::bad_length(t);
     if bad {
         return 9;
     }

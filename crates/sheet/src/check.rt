@@ -5,9 +5,9 @@ use crate::contents::short;
 use crate::kind::FORMULA;
 use crate::level::levels;
 use crate::operands::operands_fit;
-use crate::read::body;
 use crate::read::count;
 use crate::read::kind;
+use crate::read::part;
 use crate::widths::in_range;
 use crate::widths::widths_fit;
 ghost use mathlib.Core.Path.{_≡_};
@@ -56,7 +56,7 @@ fn entry_refusal(s: &[u8], i: usize) -> Checked
     ensures { λ r. ⌜ numberOf r ≡ entryRefusal (entries (now (s .entry))) i (entryAt (now (s .entry)) i) ⌝ }
 {
     let row = kind(s, i);
-    let b = body(s, i);
+    let b = part(s, i, row.body as usize);
     if !operands_fit(s, i, b, row) {
         return Checked::Operands;
     }

@@ -75,7 +75,7 @@ pub fn places_fit(s: &[u8], n: usize) -> bool
             return false;
         }
         let kind = kind(s, i);
-        at += kind.body;
+        at += kind.body as usize;
         i += 1;
     }
     at == s.len()

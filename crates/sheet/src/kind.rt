@@ -3,12 +3,12 @@ ghost use mathlib.Core.Path.{_≡_};
 ghost use Rattle.meaning.specs.Kind.{ruleOf};
 ghost use Rattle.sheet.specs.Kind.{codesOf};
 
-// A row of the table. specs/Kind.antt gives its numbers from the definition's row.
+// A row of the table, all bytes: the shorter the table the faster. specs/Kind.antt gives its numbers from the definition's row.
 pub struct Kind {
     pub sort: u8,
     // in bytes
-    pub body: usize,
-    pub operands: usize,
+    pub body: u8,
+    pub operands: u8,
     // what each of them has to be
     pub first: u8,
     pub second: u8,
@@ -48,6 +48,9 @@ pub const SPAN: u8 = 4;
 pub const NOT_WIDER: u8 = 5;
 
 pub const ALIKE: u8 = 6;
+
+// The number of the one kind whose sort is VARIABLE: where only this is asked, the table need not be read.
+pub const VARIABLE_NUMBER: u8 = 1;
 
 // no kind has this number
 const ABSENT: Kind = Kind {

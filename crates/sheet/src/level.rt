@@ -1,7 +1,7 @@
 // Levels: bit 0 of every variable in entry order, then bit 1 of each variable that has one, and so on.
-use crate::kind::VARIABLE;
+use crate::kind::VARIABLE_NUMBER;
 use crate::read::count;
-use crate::read::kind;
+use crate::read::number;
 use crate::read::width;
 ghost use mathlib.Core.Path.{_≡_};
 ghost use Prim.Native.Nat.{_+_, _≤_, _<_};
@@ -16,8 +16,7 @@ pub fn bits_of(s: &[u8], j: usize) -> u32
     requires { ⌜ record-at (j + 1) ≤ length (now s) ⌝ }
     ensures { λ r. ⌜ (r ≡ variableBits (entryAt (now (s .entry)) j)) × (r < 256) ⌝ }
 {
-    let kind = kind(s, j);
-    if kind.sort != VARIABLE {
+    if number(s, j) != VARIABLE_NUMBER {
         return 0;
     }
     width(s, j)

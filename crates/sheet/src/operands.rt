@@ -68,7 +68,7 @@ pub fn operands_fit(s: &[u8], i: usize, b: &[u8], row: Kind) -> bool
     ensures { λ r. ⌜ r ≡ operandsFit (entries (now (s .entry))) i (entryAt (now (s .entry)) i) 0
         (ruleAt (now (s .entry)) i .operands) ⌝ }
 {
-    let many = row.operands;
+    let many = row.operands as usize;
     let mut k = 0;
     while k < many {
         if !operand_fits(s, i, b, row, k) {

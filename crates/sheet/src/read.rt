@@ -2,7 +2,7 @@
 use crate::kind::Kind;
 ghost use mathlib.Core.Path.{_≡_};
 ghost use Prim.Native.Nat.{_+_, _*_, _≤_, _<_};
-ghost use lib.ListN.{length, getD};
+ghost use lib.ListN.{length, getD, take, drop};
 ghost use Rattle.meaning.specs.Number.{little};
 ghost use Rattle.meaning.specs.Sheet.{pairAt, count, record-at, ruleAt, widthAt, place, body};
 ghost use Rattle.sheet.specs.Kind.{codesOf};
@@ -71,16 +71,25 @@ pub fn place(s: &[u8], i: usize) -> usize
     pair_at(s, 2 + 4 * i + 2)
 }
 
+// So many bytes from entry i's place on, as a part of the sheet itself.
+pub fn part<'a>(s: &'a [u8], i: usize, many: usize) -> &'a [u8]
+    requires { ⌜ record-at (i + 1) ≤ length (now s) ⌝ }
+    requires { ⌜ place (now s) i + many ≤ length (now s) ⌝ }
+    ensures { λ r. ⌜ now r ≡ take many (drop (place (now (s .entry)) i) (now (s .entry))) ⌝ }
+{
+    let at = place(s, i);
+    let end = at + many;
+    &s[at..end]
+}
+
 // Entry i's body, as a part of the sheet itself.
 pub fn body<'a>(s: &'a [u8], i: usize) -> &'a [u8]
     requires { ⌜ record-at (i + 1) ≤ length (now s) ⌝ }
     requires { ⌜ place (now s) i + ruleAt (now s) i .body ≤ length (now s) ⌝ }
     ensures { λ r. ⌜ now r ≡ body (now (s .entry)) i ⌝ }
 {
-    let at = place(s, i);
-    let kind = kind(s, i);
-    let end = at + kind.body;
-    &s[at..end]
+    let row = kind(s, i);
+    part(s, i, row.body as usize)
 }
 
 // Operand k, an entry number.

@@ -54,7 +54,7 @@ fn own_widths(s: &[u8], i: usize, b: &[u8], row: Kind) -> bool
     ensures { λ r. ⌜ r ≡ ownWidth (entries (now (s .entry))) (entryAt (now (s .entry)) i) 0
         (ruleAt (now (s .entry)) i .operands) ⌝ }
 {
-    let many = row.operands;
+    let many = row.operands as usize;
     let mut k = 0;
     while k < many {
         if !own_width(s, i, b, row, k) {

@@ -1,25 +1,28 @@
 -- One place of a sum at a limit, and the count that may cut it.
 --
 --   SumMade     the two steps of a sum bit were done, and numbers stand for their diagrams
+--   Tallies     the first sum bits' nodes are marked, and this is their count
 --   Exceeds     the answer whether the sum bits' nodes exceed the limit
 --   SumMeans    a sum so far stands for a carry and some sum bits; the places above them hold the unknown mark
 --   Placed      what one place more makes of a sum so far: it stops there, or goes on
-use Prim.Native.Nat.{ℕ, _*_, _≤_, _<_}
+use Prim.Native.Nat.{ℕ, _*_, _/_, _≤_, _<_}
 use mathlib.Core.Path.{_≡_}
 use mathlib.Core.Bool.{Bool, true, false}
 use mathlib.Core.List.{List, [], _∷_, _++_}
 use lib.Dec.{eqb, ltb}
 use lib.ListN.{length, getD}
 use Rattle.meaning.specs.Diagram.{Tree}
-use Rattle.meaning.specs.Table.{count}
+use Rattle.meaning.specs.Table.{Table, enterAll, count}
 use Rattle.meaning.specs.Step.{Work, _>>=_, step, isXor, unused}
 use Rattle.meaning.specs.Row.{Bit, known, Row, unknowns, counted, nextCarry, addFrom, partial}
-use Rattle.meaning.proofs.Laws.Table.{Single, Falls}
+use Rattle.meaning.proofs.Laws.Table.{Is, Single, Falls}
 use Rattle.diagram.specs.State.{nodes, After, Alive, Known}
+use Rattle.diagram.specs.Count.{Unmarked, Counted}
 use Rattle.diagram.specs.declared.builder.Builder.{Builder}
 use Rattle.term.specs.Row.{mark, RowKnown, RowMeans, Makes}
 use Rattle.term.specs.Bit.{BitMeans, BitMade}
 use Rattle.term.specs.declared.add.Sum.{Sum}
+use Rattle.term.specs.declared.add.Tally.{Tally}
 use Rattle.term.specs.declared.row.Row as Declared
 
 -- a diagram made, as a known bit
@@ -60,23 +63,49 @@ pub record Laid (cells : List ℕ) (b : Builder) : Type 0 where
   pub single : Single (nodes cells b)
   pub falls : Falls (nodes cells b)
 
--- there is a mark for each slot, and the first k numbers are terminals or used nodes
-pub record Countable (cells marks : List ℕ) (b : Builder) (limit : ℕ) (bits : List ℕ) (k : ℕ) : Type 0 where
-  pub laid : b .full ≡ false → Laid cells b
+-- the first numbers stand for these diagrams
+abbrev pub Numbered : Table → List ℕ → List Tree → Type 0
+Numbered T bits ts = (j : ℕ) → j < length ts → Is T (getD bits j 0) (getD ts j unused)
+
+-- the first of k numbers are counted: whatever diagrams they stand for, exactly these diagrams' nodes are marked, and this
+-- is their count. Before the first is counted, the marks may be anything
+pub record Tallies (cells marks : List ℕ) (b : Builder) (limit : ℕ) (bits : List ℕ) (k : ℕ) (r : Tally) : Type 0 where
+  pub inside : r .bits ≤ k
+  pub fits : r .nodes ≤ limit
+  pub none : r .bits ≡ 0 → r .nodes ≡ 0
+  pub marked : b .full ≡ false → 0 < r .bits → (ts : List Tree) → length ts ≡ r .bits
+      → Numbered (nodes cells b) bits ts
+      → Counted (length cells / 3) (nodes cells b) marks (r .nodes) (enterAll ts [])
+
+-- marks that count something stay, others are cleared
+pub record Clears (cells : List ℕ) (counted : ℕ) (marks marks′ : List ℕ) : Type 0 where
+  pub stays : 0 < counted → marks′ ≡ marks
+  pub clear : counted ≡ 0 → Unmarked (length cells / 3) marks′
+
+-- there is a mark for each slot, the first k numbers are terminals or used nodes, and some of them are counted
+pub record Countable (cells marks : List ℕ) (b : Builder) (limit : ℕ) (bits : List ℕ) (k : ℕ)
+    (so-far : Tally) : Type 0 where
+  pub free : b .full ≡ false
+  pub laid : Laid cells b
   pub low : limit < 4294967296
   pub marks-room : 1048576 ≤ 32 * length marks
   pub narrow : k ≤ 32
   pub each : (i : ℕ) → i < k → Known b (getD bits i 0)
+  pub tallies : Tallies cells marks b limit bits k so-far
 
 -- the first numbers stand for these sum bits
 pub record NumbersMean (n : ℕ) (cells : List ℕ) (b : Builder) (bits : List ℕ) (sums : List Tree) : Type 0 where
   pub each : (k : ℕ) → k < length sums → BitMeans n cells b (getD bits k 0) (known (getD sums k unused))
 
--- r answers whether the first k numbers' nodes exceed the limit; once the table is full they do
+-- r answers whether the first k numbers' nodes exceed the limit, unless the table is full
 pub record Exceeds (cells : List ℕ) (b : Builder) (limit : ℕ) (bits : List ℕ) (k : ℕ) (r : Bool) : Type 0 where
-  pub full : b .full ≡ true → r ≡ true
   pub counts : (n : ℕ) (carry : Tree) (sums : List Tree) → b .full ≡ false → length sums ≡ k
       → NumbersMean n cells b bits sums → r ≡ ltb limit (count (counted sums carry))
+
+-- r tells whether they do; if they don't, it says what is counted
+pub record Told (cells marks : List ℕ) (b : Builder) (limit : ℕ) (bits : List ℕ) (k : ℕ) (r : Tally) : Type 0 where
+  pub exceeds : Exceeds cells b limit bits k (ltb limit (r .nodes))
+  pub tallies : r .nodes ≤ limit → Tallies cells marks b limit bits k r
 
 -- ---- one place
 
@@ -88,6 +117,7 @@ pub record Summing (cells w marks : List ℕ) (limit : ℕ) (s : Sum) : Type 0 w
   pub narrow : s .count < 32
   pub carry : Known (s .at) (s .carry)
   pub each : (i : ℕ) → i < s .count → Known (s .at) (getD (s .bits) i 0)
+  pub tallies : Tallies cells marks (s .at) limit (s .bits) (s .count) (s .tally)
 
 -- c is the carry, over n levels
 pub record SumMeans (n : ℕ) (cells : List ℕ) (s : Sum) (c : Tree) (sums : List Tree) : Type 0 where
@@ -98,7 +128,7 @@ pub record SumMeans (n : ℕ) (cells : List ℕ) (s : Sum) (c : Tree) (sums : Li
 
 -- the bits from here on are unknown
 abbrev pub cutAt : Sum → Builder → Sum
-cutAt s b = record { at = b; bits = s .bits; count = s .count; carry = s .carry; cut = true }
+cutAt s b = record { at = b; bits = s .bits; count = s .count; carry = s .carry; tally = s .tally; cut = true }
 
 -- the sum of ar and br from here on was made: all of its bits are unknown
 pub record Stops (n L : ℕ) (c : Tree) (sums : List Tree) (ar br : Row) (cells w : List ℕ) (s : Sum)
@@ -131,6 +161,10 @@ Places L cells w s x y top cells′ w′ s′ =
     (n : ℕ) (c : Tree) (sums : List Tree) (p q : Bit) (ar br : Row) → n ≤ 128 → top ≡ eqb (length ar) 0
     → SumMeans n cells s c sums → BitMeans n cells (s .at) x p → BitMeans n cells (s .at) y q
     → Placed n L c sums p q ar br cells w s cells′ w′ s′
+
+-- unless it is cut there, what it says is counted is so
+abbrev pub Tallying : List ℕ → List ℕ → ℕ → Sum → Type 0
+Tallying cells marks limit s = s .cut ≡ false → Tallies cells marks (s .at) limit (s .bits) (s .count) (s .tally)
 
 -- ---- rows
 

@@ -1,10 +1,12 @@
 // Addition at a limit, and what is made of it: negation and multiplication.
 ghost use mathlib.Core.Path.{_≡_};
-ghost use Prim.Native.Nat.{_≤_};
+ghost use mathlib.Core.Bool.{false};
+ghost use lib.ListN.{length};
+ghost use Prim.Native.Nat.{_*_, _≤_};
 ghost use Rattle.meaning.specs.Row as Definition;
 ghost use Rattle.diagram.specs.State.{Alive, Known};
 ghost use Rattle.term.specs.Row.{BitKnown, RowKnown};
-ghost use Rattle.term.specs.Add.{Sums, Carries, Countable, Exceeds, Summing, cutAt, Places};
+ghost use Rattle.term.specs.Add.{Sums, Carries, Clears, Countable, Told, Summing, cutAt, Places, Tallying};
 ghost use Rattle.term.specs.Add.{Addable, OnRow, OnRows, OnBit};
 use crate::bitwise;
 use crate::bitwise::Operation;
@@ -16,6 +18,7 @@ use diagram::builder::Made;
 use diagram::count;
 use diagram::function;
 use diagram::number::Diagram;
+use diagram::table;
 use diagram::table::Cell;
 
 // The next state, a xor b, and the sum bit.
@@ -25,12 +28,20 @@ struct Summed {
     sum: u32,
 }
 
-// A sum so far: the state, the sum bits, how many they are, and the carry into the next. Cut: the next bits are unknown.
+// What is counted of a sum: the nodes of its first `bits` sum bits are marked, and there are `nodes` of them.
+struct Tally {
+    bits: usize,
+    nodes: usize,
+}
+
+// A sum so far: the state, the sum bits, how many they are, the carry into the next, and what is counted. Cut: the next
+// bits are unknown.
 struct Sum {
     at: Builder,
     bits: [u32; 32],
     count: usize,
     carry: u32,
+    tally: Tally,
     cut: bool,
 }
 
@@ -77,33 +88,43 @@ fn carry_bit(
     last.step(t, w, function::OR, made.number, passed.number, 0)
 }
 
-// Do the distinct nodes of sum bits 0 to k - 1 exceed the limit? While no more slots are used than that, they can't.
-fn exceeds(
+// Before the first sum bit is counted nothing is marked, not even a slot that is used only later.
+fn clear(t: &[Cell], marks: &mut [u32], counted: usize)
+    requires { ⌜ (length (now t) ≤ 3145728) × (1048576 ≤ 32 * length (now marks)) ⌝ }
+    ensures { λ _. ⌜ Clears (now (t .entry)) counted (now (marks .entry)) (now (marks .exit)) ⌝ }
+{
+    if 0 < counted {
+        return;
+    }
+    count::begin(marks, table::slots(t));
+}
+
+// Counts the distinct nodes of sum bits 0 to k - 1, those of the first bits being counted before. While no more slots
+// are used than the limit, the nodes can't exceed it, and none is counted.
+fn walk(
     b: Builder,
     t: &[Cell],
     marks: &mut [u32],
     limit: usize,
     bits: [u32; 32],
     k: usize,
-) -> bool
-    requires { ⌜ Countable (now t) (now marks) b limit bits k ⌝ }
-    ensures { λ r. ⌜ Exceeds (now (t .entry)) b limit bits k r ⌝ }
+    before: Tally,
+) -> Tally
+    requires { ⌜ Countable (now t) (now marks) b limit bits k before ⌝ }
+    ensures { λ r. ⌜ Told (now (t .entry)) (now (marks .exit)) b limit bits k r ⌝ }
 {
-    if b.full {
-        return true;
-    }
     let used = b.used;
     if used <= limit {
-        return false;
+        return before;
     }
-    count::begin(marks, used);
-    let mut so_far = 0;
-    let mut i = 0;
+    clear(t, marks, before.bits);
+    let mut nodes = before.nodes;
+    let mut i = before.bits;
     while i < k {
-        so_far = count::visit(t, marks, bits[i], so_far, limit);
+        nodes = count::visit(t, marks, bits[i], nodes, limit);
         i += 1;
     }
-    limit < so_far
+    Tally { bits: i, nodes }
 }
 
 // The bits from here on are unknown.
@@ -111,11 +132,13 @@ fn cut(s: Sum, at: Builder) -> Sum
     ensures { λ r. ⌜ r ≡ cutAt s at ⌝ }
 {
     let bits = s.bits;
+    let tally = s.tally;
     Sum {
         at,
         bits,
         count: s.count,
         carry: s.carry,
+        tally,
         cut: true,
     }
 }
@@ -132,7 +155,7 @@ fn place(
     top: bool,
 ) -> Sum
     requires { ⌜ Summing (now t) (now w) (now marks) limit s × (BitKnown (s .at) x × BitKnown (s .at) y) ⌝ }
-    ensures { λ r. ⌜ Places limit (now (t .entry)) (now (w .entry)) s x y top (now (t .exit)) (now (w .exit)) r ⌝ }
+    ensures { λ r. ⌜ Places limit (now (t .entry)) (now (w .entry)) s x y top (now (t .exit)) (now (w .exit)) r × Tallying (now (t .exit)) (now (marks .exit)) limit r ⌝ }
 {
     let b = s.at;
     if x == Diagram::UNKNOWN.0 {
@@ -144,10 +167,15 @@ fn place(
     let carry = s.carry;
     let made = sum_bit(b, t, w, x, y, carry);
     let at = made.at;
+    if at.full {
+        return cut(s, at);
+    }
     let i = s.count;
     let mut bits = s.bits;
     bits[i] = made.sum;
-    if exceeds(at, t, marks, limit, bits, i + 1) {
+    let so_far = s.tally;
+    let tally = walk(at, t, marks, limit, bits, i + 1, so_far);
+    if limit < tally.nodes {
         return cut(s, at);
     }
     let next = carry_bit(at, t, w, made.half, x, y, carry, top);
@@ -157,6 +185,7 @@ fn place(
         bits,
         count: i + 1,
         carry: next.number,
+        tally,
         cut: false,
     }
 }
@@ -192,6 +221,7 @@ pub fn add(
         bits: [Diagram::UNKNOWN.0; 32],
         count: 0,
         carry: Diagram::FALSE.0,
+        tally: Tally { bits: 0, nodes: 0 },
         cut: false,
     };
     while s.count < width {

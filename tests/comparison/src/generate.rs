@@ -361,6 +361,40 @@ impl Grower {
     }
 }
 
+/// A good sheet brought to 128 variable bits, and half of the time to 256
+/// entries, by more entries in front of the last one (nothing names the last).
+pub fn filled(random: &mut Random, sheet: &[u8]) -> Vec<u8> {
+    let mut entries = sheet::unpack(sheet).unwrap();
+    let bits: usize = entries.iter().filter(|e| e.0 == 1).map(|e| e.1 as usize).sum();
+    let mut missing = 128 - bits;
+    let put = |entries: &mut Vec<Raw>, entry: Raw| entries.insert(entries.len() - 1, entry);
+    while missing > 0 && entries.len() < 256 {
+        let width = missing.min(random.pick(&[32, 32, 7, 1]));
+        missing -= width;
+        put(&mut entries, (1, width as u8, vec![]));
+    }
+    let to = if random.percent(50) { 256 } else { 0 };
+    while entries.len() < to {
+        let kind = random.pick(&[2, 2, 32, 33]);
+        put(&mut entries, if kind == 2 { (2, 32, vec![255; 4]) } else { (kind, 0, vec![]) });
+    }
+    sheet::pack(&entries)
+}
+
+/// A good sheet with the longest bodies there are: true, a variable, 253
+/// times if-then-else, equal.
+pub fn longest() -> Vec<u8> {
+    let mut w = Writer::new();
+    let condition = w.formula(32, &[]);
+    let x = w.variable(32);
+    let mut last = x;
+    while w.len() < 255 {
+        last = w.if_then_else(condition, last, x);
+    }
+    w.equal(last, x);
+    w.sheet()
+}
+
 // ------------------------------------------------------------ damaged sheets
 
 /// A good sheet with one or more edits near the edges of refusals 1 to 8.
@@ -554,16 +588,20 @@ fn edit_bytes(random: &mut Random, sheet: &[u8]) -> Vec<u8> {
 /// Lengths of table and work buffer, around the edges of 9 and 10.
 pub fn room(random: &mut Random) -> (usize, usize) {
     let table = match random.below(10) {
-        0 => random.pick(&[1, 2, 4, 6143, 6145, TABLE_MOST + 1, TABLE_MOST + 3, TABLE_MOST - 1]),
+        // The longest ones rarely: they take long to fill and to compare.
+        0 if random.percent(4) => random.pick(&[TABLE_MOST - 1, TABLE_MOST, TABLE_MOST + 1, TABLE_MOST + 3]),
+        0 => random.pick(&[1, 2, 4, 6143, 6145]),
         1 => 0,
         2 => 3 * random.below(8),
         3 => 3 * random.below(64),
         4 => 3 * random.below(512),
-        _ => 3 * random.pick(&[2048, 2048, 16384]),
+        _ => 3 * random.pick(&[2048, 2048, 2048, 2048, 2048, 2048, 2048, 16384]),
     };
+    // Above 32,768 the library uses its scratch differently.
     let work = match random.below(8) {
         0 => random.pick(&[0, 1, WORK_LEAST - 1]),
         1 => WORK_LEAST + 1,
+        2 | 3 => random.pick(&[10_000, 32_767, 32_768, 32_769, 40_000, 100_000]),
         _ => WORK_LEAST,
     };
     (table, work)
@@ -577,7 +615,7 @@ pub fn limit(random: &mut Random) -> u32 {
         2 | 3 => random.below(20) as u32,
         4 => random.below(200) as u32,
         5 => 1000,
-        6 => u32::MAX,
+        6 => random.pick(&[u32::MAX, u32::MAX, 999, 1001, 2047, 2048, 2049, 16_384, 16_385]),
         _ => random.below(3000) as u32,
     }
 }

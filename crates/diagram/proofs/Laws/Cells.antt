@@ -1,15 +1,16 @@
 -- Laws of the cells of table and scratch.
-use Prim.Native.Nat.{ℕ, _+_, _-_, _≤_, _<_, min}
+use Prim.Native.Nat.{ℕ, _+_, _-_, _%_, _≤_, _<_, min}
 use native.Mathlib.Numerals.{add-one}
 use native.Mathlib.Omega.{arith}
 use mathlib.Core.Path.{_≡_, refl, sym, ap, _∙_}
-use mathlib.Core.Bool.{Bool, true, false, cond}
+use mathlib.Core.Bool.{Bool, true, false, cond, not, _||_, true≢false}
 use mathlib.Core.List.{List}
-use lib.Dec.{eqb}
+use lib.Dec.{eqb, ltb}
 use lib.ListN.{length, set, take, replicate, length-set, replicate-append-replicate}
 use lib.Seq.{take-suc-set, take-all}
-use borrow.Author.Tests.{eq-eqb, ne-eqb, lt-ltb, le-ltb}
+use borrow.Author.Tests.{eq-eqb, ne-eqb, lt-ltb, le-ltb, ltb-false}
 use Rattle.meaning.specs.Table.{Node, slot, alike}
+use Rattle.meaning.specs.Solve.{badTable}
 use Rattle.meaning.specs.Lent.{nodeAt, levelOf, lowOf, highOf}
 use Rattle.diagram.specs.Hash.{placeOf}
 use Rattle.diagram.specs.Scratch.{Holds, Recalled, entryAt, remembered}
@@ -17,6 +18,16 @@ use Rattle.diagram.specs.State.{topOf, partOf, partsOf, noted}
 use Rattle.diagram.specs.declared.builder.Builder.{Builder}
 use Rattle.diagram.specs.declared.table.Parts.{Parts}
 use Rattle.diagram.proofs.Laws.Hash.{place-lt}
+
+-- ---- a table's length
+
+-- where 9 has no cause
+pub length-small : (n : ℕ) → badTable n ≡ false → n ≤ 3145728
+length-small n = by (not (eqb (n % 3) 0))
+  where
+    by : (b : Bool) → b || ltb 3145728 n ≡ false → n ≤ 3145728
+    by true fine = absurd (true≢false fine)
+    by false fine = ltb-false 3145728 n fine
 
 -- ---- a slot's node
 

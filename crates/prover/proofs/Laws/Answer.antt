@@ -1,22 +1,24 @@
 -- The answer of solve: the paths of the code through the definition.
-use Prim.Native.Nat.{ℕ, suc, _-_, _*_, _/_, _%_, _≤_, _<_}
+use Prim.Native.Nat.{ℕ, _-_, _*_, _/_, _≤_, _<_}
 use native.Mathlib.Omega.{arith}
 use mathlib.Core.Path.{_≡_, refl, sym, ap, _∙_}
-use mathlib.Core.Bool.{Bool, true, false, not, _||_, true≢false}
+use mathlib.Core.Bool.{Bool, true, false}
 use mathlib.Core.List.{List, _++_}
 use lib.Dec.{eqb, ltb}
 use lib.ListN.{length, replicate}
 use borrow.Author.Tests.{eq-eqb, ne-eqb, eqb-true, eqb-false, lt-ltb, le-ltb, ltb-false}
 use borrow.Rule.Slice.PartMut.{midOf, putMid}
 use Rattle.meaning.specs.Sheet.{entries}
-use Rattle.meaning.specs.Check.{refuse, first, check}
+use Rattle.meaning.specs.Check.{first, check}
 use Rattle.meaning.specs.Table.{enter, layAll}
 use Rattle.meaning.specs.Solve.{badTable, inputRefusal, verdictOf, worked, solve, noRoom, answered}
 use Rattle.meaning.specs.Solve.{unnamedLimit, solveUnnamed}
 use Rattle.meaning.proofs.Laws.Table.{enter-again}
+use Rattle.meaning.proofs.Laws.Value.{refuse-none}
 use Rattle.meaning.proofs.Laws.Solve.{nodesAt, pairAt, nodes-single}
 use Rattle.diagram.specs.declared.builder.Builder.{Builder}
 use Rattle.diagram.proofs.Laws.Nodes.{nodesOf-length}
+use Rattle.diagram.proofs.Laws.Cells.{length-small}
 use Rattle.prover.specs.Kept.{Ran}
 use Rattle.prover.specs.Answer.{Meets}
 use Rattle.prover.specs.declared.answer.Answer.{Answer}
@@ -49,20 +51,12 @@ pub record Passes (s : List ℕ) (table work : ℕ) : Type 0 where
   pub small : table ≤ 3145728
   pub room : 8192 ≤ work
 
-either : (a b : Bool) → (a || b) ≡ false → b ≡ false
-either true b none = absurd (true≢false none)
-either false b none = none
-
 first-both : (r later : ℕ) → first r later ≡ 0 → (r ≡ 0) × (later ≡ 0)
 first-both r later none = go (eqb r 0) refl
   where
     go : (b : Bool) → eqb r 0 ≡ b → (r ≡ 0) × (later ≡ 0)
     go true e = (eqb-true r 0 e, rw e at none)
     go false e = absurd (eqb-false r 0 e (rw e at none))
-
-refuse-none : (n : ℕ) (cause : Bool) (later : ℕ) → refuse (suc n) cause later ≡ 0 → (cause ≡ false) × (later ≡ 0)
-refuse-none n true later none = absurd (omega arith)
-refuse-none n false later none = (refl, none)
 
 pub input-passes : (s : List ℕ) (table work : ℕ) → inputRefusal s table work ≡ 0 → Passes s table work
 unfolding inputRefusal
@@ -72,7 +66,7 @@ input-passes s table work none =
     let ten = refuse-none 9 (ltb work 8192) 0 (nine .1) in
     record {
       passed = eight .0;
-      small = ltb-false 3145728 table (either (not (eqb (table % 3) 0)) (ltb 3145728 table) (nine .0));
+      small = length-small table (nine .0);
       room = ltb-false work 8192 (ten .0);
     }
 

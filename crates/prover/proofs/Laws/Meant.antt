@@ -14,7 +14,7 @@ use Rattle.diagram.specs.declared.builder.Builder.{Builder}
 use Rattle.term.specs.Row.{RowMeans}
 use Rattle.term.specs.declared.row.Row.{Row}
 use Rattle.term.proofs.Laws.Rows.{after-bit, after-row, row-known, is-used}
-use Rattle.prover.specs.Value.{Meant, Held, PairIn}
+use Rattle.entry.specs.Value.{Meant, Held}
 use Rattle.prover.proofs.Laws.Run.{Wide}
 
 -- they stand for it after some steps too

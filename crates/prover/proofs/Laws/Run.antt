@@ -15,9 +15,11 @@ use Rattle.meaning.specs.Sheet.{Entry, entry, noEntry}
 use Rattle.meaning.specs.Level.{levels}
 use Rattle.meaning.specs.Diagram.{Tree}
 use Rattle.meaning.specs.Meaning.{Meaning, meanings, meaningAt}
+use Rattle.meaning.specs.Table.{Table, enterAll}
 use Rattle.meaning.specs.Run.{Value, row, rowOf, valueAt, workOf, runFrom, run}
 use Rattle.meaning.proofs.Laws.Checked.{Checked}
 use Rattle.meaning.proofs.Laws.Related.{low-length}
+use Rattle.meaning.proofs.Laws.Table.{enterAll-append, enterAll-grows}
 use Rattle.meaning.proofs.Laws.Run.{InStep, run-related}
 
 -- ---- some entries, then some more
@@ -105,6 +107,19 @@ module _ (es : List Entry) (L : ℕ) where
   pub steps-all : (i : ℕ) → length es ≤ i → stepsTo es L i ≡ run es L .steps
   unfolding stepsTo run
   steps-all i all = ap (λ (xs : List Entry). runFrom es (levels es) L [] xs .steps) (take-all i es all)
+
+  -- the whole run enters no fewer nodes
+  pub steps-grow : (i : ℕ) (T : Table)
+      → length (enterAll (stepsTo es L i) T) ≤ length (enterAll (run es L .steps) T)
+  unfolding stepsTo run
+  steps-grow i T =
+      let n = levels es in
+      let early = runFrom es n L [] (take i es) in
+      let late = runFrom es n L (early .value) (drop i es) in
+      let whole : run es L .steps ≡ early .steps ++ late .steps =
+      ap (λ (xs : List Entry). runFrom es n L [] xs .steps) (sym (take-append-drop i es))
+      ∙ from-steps es n L [] (take i es) (drop i es) in
+      rw (whole, enterAll-append (early .steps) (late .steps) T) (enterAll-grows (late .steps) (enterAll (early .steps) T))
 
   -- the whole run has the same values
   pub values-run : (i j : ℕ) → i ≤ length es → j < i → valueAt (run es L .value) j ≡ valueAt (valuesTo es L i) j

@@ -3,21 +3,22 @@
 --   Going                        the invariant: the first i entries have been worked, and their rows stand for their values
 --   operand-meant, operand-held  what the operands' rows stand for
 --   going-start, -next, -done    the loop's begin, turn and end
+--   going-full                   the end before the last entry, when a node had no slot
 use Prim.Native.Nat.{ℕ, _+_, _-_, _*_, _/_, _≤_, _<_}
 use native.Mathlib.Omega.{arith}
 use mathlib.Core.Path.{_≡_, refl, sym, ap, subst, _∙_}
-use mathlib.Core.Bool.{Bool, true, false, false≢true}
+use mathlib.Core.Bool.{Bool, true, false, false≢true, true≢false}
 use mathlib.Core.List.{List, [], _∷_, _++_}
 use lib.Dec.{ltb}
 use lib.ListN.{length, getD}
-use borrow.Author.Tests.{ltb-true, ltb-false}
+use borrow.Author.Tests.{lt-ltb, ltb-true, ltb-false}
 use Rattle.meaning.specs.Kind.{Sort}
 use Rattle.meaning.specs.Sheet.{Entry, count, ruleAt, widthAt, entryAt, entries, entry, operand}
 use Rattle.meaning.specs.Level.{levels}
 use Rattle.meaning.specs.Check.{check, isFormula}
 use Rattle.meaning.specs.Table.{Table, enterAll}
 use Rattle.meaning.specs.Run.{Value, row, pairOf, valueAt, workOf, run}
-use Rattle.meaning.proofs.Laws.Checked.{Checked, check-checked, entries-length}
+use Rattle.meaning.proofs.Laws.Checked.{check-checked, entries-length}
 use Rattle.meaning.proofs.Laws.Run.{old-at, new-at}
 use Rattle.meaning.proofs.Laws.Solve.{nodesAt, pairAt}
 use Rattle.sheet.proofs.Laws.Sheet.{entry-at}
@@ -27,10 +28,11 @@ use Rattle.diagram.specs.declared.builder.Builder.{Builder}
 use Rattle.diagram.proofs.Laws.Nodes.{nodesOf-none}
 use Rattle.diagram.proofs.Laws.After.{after-nothing, after-then}
 use Rattle.term.specs.declared.row.Row.{Row}
-use Rattle.prover.specs.Value.{Meant, PairIn, OperandMeant, OperandHeld, Enters}
-use Rattle.prover.specs.Kept.{Reads, Keeps, OperandReads, Ran}
+use Rattle.entry.specs.Value.{Meant, PairIn, OperandMeant, OperandHeld, Enters}
+use Rattle.entry.specs.Rows.{Reads, Keeps}
+use Rattle.prover.specs.Kept.{OperandReads, Ran}
 use Rattle.prover.proofs.Laws.Run.{valuesTo, stepsTo, steps-none, values-length}
-use Rattle.prover.proofs.Laws.Run.{values-next, steps-next, values-all, steps-all}
+use Rattle.prover.proofs.Laws.Run.{values-next, steps-next, values-all, steps-all, steps-grow}
 use Rattle.prover.proofs.Laws.Run.{Wide, values-wide}
 use Rattle.prover.proofs.Laws.Meant.{meant-after, meant-moved, meant-held}
 
@@ -149,6 +151,26 @@ module _ {s : List ℕ} {L : ℕ} {cells₀ w₀ : List ℕ} {b₀ : Builder} {c
             let over = ltb-false j i e in
             let same : i ≡ j = omega arith in
             subst (λ (m : ℕ). Stored s (valuesTo (entries s) L (i + 1)) kept′ cells′ b′ m) same new-stored
+
+-- ---- no slot for a node: what follows needs no fewer
+
+pub going-full : {s : List ℕ} {L : ℕ} {cells₀ w₀ : List ℕ} {b₀ : Builder} {cells w kept : List ℕ} {b : Builder} {i : ℕ}
+    → Going s L cells₀ w₀ b₀ cells w kept b i → b₀ .used ≡ 0 → b₀ .full ≡ false → b .full ≡ true
+    → (must may : ℕ) → Ran s L cells₀ cells b must may
+going-full {s} {L} {cells₀} {b₀} {b} {i} going empty free₀ full must may =
+    let first : nodes cells₀ b₀ ≡ [] = rw empty (nodesOf-none cells₀) in
+    let so-far : length (enterAll (stepsTo (entries s) L i) []) ≤ length (nodesAt s L) = steps-grow (entries s) L i [] in
+    let filled : ltb (length cells₀ / 3) (length (enterAll (stepsTo (entries s) L i) [])) ≡ true =
+    rw first at (sym (going .after .filled free₀) ∙ full) in
+    let over = ltb-true (length cells₀ / 3) (length (enterAll (stepsTo (entries s) L i) [])) filled in
+    record {
+      long = going .after .kept;
+      full = full ∙ sym (lt-ltb (length cells₀ / 3) (length (nodesAt s L)) (omega arith));
+      entered = λ free. absurd (true≢false (sym full ∙ free));
+      must-is = λ free. absurd (true≢false (sym full ∙ free));
+      may-is = λ free. absurd (true≢false (sym full ∙ free));
+      room = λ free. absurd (true≢false (sym full ∙ free));
+    }
 
 -- ---- the end
 

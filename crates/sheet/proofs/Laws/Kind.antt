@@ -1,13 +1,13 @@
 -- The kind table: the code's is the definition's (kinds-at up to 50, kinds-end from there on), what a row of the code's
--- tells (codes-..), and what holds of every row (rule-made).
+-- tells (codes-..), what holds of every row (rule-made), and which row is the variable's (variable-sort, other-sort).
 use Prim.Native.Nat.{ℕ, zero, suc, _*_, _≤_, _<_}
 use mathlib.Core.Path.{_≡_, refl, sym, ap, _∙_}
-use mathlib.Core.Bool.{Bool, true, false, cond, _&&_, and-eq-true-iff}
+use mathlib.Core.Bool.{Bool, true, false, cond, not, _&&_, and-eq-true-iff}
 use mathlib.Core.List.{List, [], _∷_}
 use lib.Dec.{eqb, ltb, leb}
-use lib.ListN.{length, getD}
+use lib.ListN.{length, getD, drop}
 use native.Mathlib.Omega.{arith}
-use borrow.Author.Tests.{ltb-true, leb-true, ne-eqb}
+use borrow.Author.Tests.{ltb-true, leb-true, eqb-false, ne-eqb, not-true}
 use Rattle.meaning.specs.Number.{upTo}
 use Rattle.meaning.specs.Kind.{Operand, aTerm, Widths, any, below, sum, span, notWider, alike}
 use Rattle.meaning.specs.Kind.{Rule, rules, rowOf, ruleOf, noRule}
@@ -168,3 +168,20 @@ rule-made k = made-is (rowOf k rules) (rows-every made k rules refl refl)
 
 pub codes-small : (k : Kind) (n : ℕ) → k ≡ codesOf (ruleOf n) → k .body ≤ 6
 codes-small k n is = rw (codes-body k (ruleOf n) is) (rule-made n .body-le)
+
+-- ---- the variable's row
+
+-- number 1 is the variable's, and no other row has its sort
+pub variable-sort : (k : ℕ) → k ≡ 1 → sortCode (ruleOf k .sort) ≡ 1
+unfolding ruleOf rules
+variable-sort k one = rw one refl
+
+abbrev otherSort : Rule → Bool
+otherSort r = not (eqb (sortCode (r .sort)) 1)
+
+pub other-sort : (k : ℕ) → (k ≡ 1 → ⊥) → sortCode (ruleOf k .sort) ≡ 1 → ⊥
+unfolding ruleOf rules
+other-sort k other =
+    let later : otherSort (rowOf k (drop 1 rules)) ≡ true = rows-every otherSort k (drop 1 rules) refl refl in
+    let none : eqb (sortCode (ruleOf k .sort)) 1 ≡ false = rw (ne-eqb 1 k (λ q. other (sym q))) (not-true _ later) in
+    eqb-false (sortCode (ruleOf k .sort)) 1 none

@@ -5,19 +5,18 @@ use mathlib.Core.Path.{_≡_, refl, sym, ap, ap₂, _∙_}
 use mathlib.Core.Bool.{Bool, true, false, cond, and-false}
 use mathlib.Core.List.{List, [], _∷_, _++_}
 use lib.Dec.{eqb, ltb, leb}
-use lib.ListN.{length, length-append}
+use lib.ListN.{length, getD, length-append}
 use native.Mathlib.Numerals.{add-one}
 use native.Mathlib.Omega.{arith}
 use borrow.Author.Tests.{ltb-true, ltb-false, leb-true, eqb-true, eqb-false}
 use borrow.Author.Tests.{lt-ltb, le-ltb, le-leb, lt-leb, eq-eqb, ne-eqb}
 use Rattle.meaning.specs.Kind.{Sort}
-use Rattle.meaning.specs.Sheet.{Entry, count, ruleAt, widthAt, entryAt, entries, entry}
+use Rattle.meaning.specs.Sheet.{Entry, count, record-at, ruleAt, widthAt, entryAt, entries, entry}
 use Rattle.meaning.specs.Level.{Spot, bitsOf, variableBits, having, orderFrom, order, find, level, levels}
-use Rattle.sheet.specs.declared.kind.Kind.{Kind}
-use Rattle.sheet.specs.Kind.{codesOf, sortCode}
+use Rattle.sheet.specs.Kind.{sortCode}
 use Rattle.sheet.specs.Laid.{Laid}
 use Rattle.sheet.specs.Level.{ahead, before}
-use Rattle.sheet.proofs.Laws.Kind.{codes-sort}
+use Rattle.sheet.proofs.Laws.Kind.{variable-sort, other-sort}
 use Rattle.sheet.proofs.Laws.Sheet.{entry-at, rest, rest-begin, rest-more, rest-end}
 
 abbrev spot : ℕ → ℕ → Spot
@@ -200,15 +199,14 @@ bits-own Sort.term w one = absurd (omega arith)
 bits-own Sort.formula w one = absurd (omega arith)
 bits-own Sort.neither w one = absurd (omega arith)
 
-module _ (s : List ℕ) (j : ℕ) (k : Kind) (is : k ≡ codesOf (ruleAt s j)) where
-  sort-is : k .sort ≡ sortCode (ruleAt s j .sort)
-  sort-is = codes-sort k (ruleAt s j) is
+module _ (s : List ℕ) (j k : ℕ) (is : k ≡ getD s (record-at j) 0) where
+  pub bits-none : (k ≡ 1 → ⊥) → 0 ≡ variableBits (entryAt s j)
+  bits-none other =
+      bits-other (ruleAt s j .sort) (widthAt s j) (other-sort (getD s (record-at j) 0) (λ q. other (is ∙ q)))
 
-  pub bits-none : (k .sort ≡ 1 → ⊥) → 0 ≡ variableBits (entryAt s j)
-  bits-none other = bits-other (ruleAt s j .sort) (widthAt s j) (λ q. other (sort-is ∙ q))
-
-  pub bits-some : (w : ℕ) → k .sort ≡ 1 → w ≡ widthAt s j → w ≡ variableBits (entryAt s j)
-  bits-some w one is-w = is-w ∙ bits-own (ruleAt s j .sort) (widthAt s j) (sym sort-is ∙ one)
+  pub bits-some : (w : ℕ) → k ≡ 1 → w ≡ widthAt s j → w ≡ variableBits (entryAt s j)
+  bits-some w one is-w =
+      is-w ∙ bits-own (ruleAt s j .sort) (widthAt s j) (variable-sort (getD s (record-at j) 0) (sym is ∙ one))
 
 -- the loop of `before`: so many were counted, and so many are left from entry j on
 pub record Counted (s : List ℕ) (i b n total j : ℕ) : Type 0 where

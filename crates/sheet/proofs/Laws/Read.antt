@@ -29,13 +29,18 @@ little-four (a ∷ b ∷ c ∷ []) low high four is-low is-high = absurd (omega 
 little-four (a ∷ b ∷ c ∷ d ∷ []) low high four is-low is-high = omega arith
 little-four (a ∷ b ∷ c ∷ d ∷ e ∷ es) low high four is-low is-high = absurd (omega arith)
 
--- ---- the part of a sheet that is a body
+-- ---- parts of a sheet
 
-module _ (s : List ℕ) (i at : ℕ) (k : Kind) (is-at : at ≡ place s i) (is-kind : k ≡ codesOf (ruleAt s i)) where
-  pub body-end : place s i + ruleAt s i .body ≤ length s → at + k .body ≤ length s
+pub part-is : (s : List ℕ) (i at many : ℕ) → at ≡ place s i →
+    take (at + many - at) (drop at s) ≡ take many (drop (place s i) s)
+part-is s i at many is-at =
+    let long : at + many - at ≡ many = omega arith in
+    rw (long, is-at) refl
+
+-- the part as long as the entry's row says is its body
+module _ (s : List ℕ) (i : ℕ) (k : Kind) (is-kind : k ≡ codesOf (ruleAt s i)) where
+  pub body-end : place s i + ruleAt s i .body ≤ length s → place s i + k .body ≤ length s
   body-end inside = omega (arith, codes-body k (ruleAt s i) is-kind)
 
-  pub body-is : take (at + k .body - at) (drop at s) ≡ body s i
-  body-is =
-      let long : at + k .body - at ≡ ruleAt s i .body = omega (arith, codes-body k (ruleAt s i) is-kind) in
-      rw (long, is-at) refl
+  pub body-is : (b : List ℕ) → b ≡ take (k .body) (drop (place s i) s) → b ≡ body s i
+  body-is b is = rw (← codes-body k (ruleAt s i) is-kind) is

@@ -3,7 +3,7 @@ use Prim.Native.Nat.{ℕ, suc, _+_, _-_, _*_, _≤_, _<_}
 use mathlib.Core.Path.{_≡_, refl, sym, ap, _∙_}
 use mathlib.Core.Bool.{Bool, true}
 use mathlib.Core.List.{List, [], _∷_}
-use lib.ListN.{length, getD, length-take, length-drop}
+use lib.ListN.{length, getD, take, drop, length-take, length-drop}
 use native.Mathlib.Numerals.{add-one}
 use native.Mathlib.Omega.{arith}
 use Rattle.meaning.specs.Number.{each}
@@ -15,6 +15,7 @@ use Rattle.sheet.specs.declared.kind.Kind.{Kind}
 use Rattle.sheet.specs.Kind.{codesOf, needCode, needAt}
 use Rattle.sheet.specs.Laid.{Laid, Entered, Suited}
 use Rattle.sheet.proofs.Laws.Kind.{codes-operands, need-at, Made, rule-made}
+use Rattle.sheet.proofs.Laws.Read.{body-end, body-is}
 
 pub entry-at : (s : List ℕ) (i : ℕ) → i < count s → entry (entries s) i ≡ entryAt s i
 unfolding entries
@@ -44,6 +45,12 @@ body-length s i inside = rw (length-take, length-drop) (omega arith)
 -- record i lies inside the sheet
 pub record-inside : {s : List ℕ} → Laid s → (i : ℕ) → i < count s → record-at (i + 1) ≤ length s
 record-inside laid i inside = omega arith
+
+-- and so does a part as long as the entry's row says
+pub part-inside : {s : List ℕ} → Laid s → (i : ℕ) (k : Kind) → i < count s → k ≡ codesOf (ruleAt s i) →
+    (record-at (i + 1) ≤ length s) × (place s i + k .body ≤ length s)
+part-inside {s} laid i k inside is-kind =
+    (record-inside laid i inside, body-end s i k is-kind (laid .bodies i inside))
 
 pub row-made : (s : List ℕ) (i : ℕ) → Made (ruleAt s i)
 row-made s i = rule-made (getD s (record-at i) 0)
@@ -81,6 +88,7 @@ module _ (s b : List ℕ) (i : ℕ) (k : Kind) (at : Entered s b i k) where
   suited is passed = record { entered = at; fit = sym is ∙ passed }
 
 -- an entry of a sheet that is laid out, as the code reads it
-pub entered : {s b : List ℕ} {i : ℕ} {k : Kind} → Laid s → i < count s → k ≡ codesOf (ruleAt s i) → b ≡ body s i →
-    Entered s b i k
-entered laid inside is-kind is-body = record { laid = laid; inside = inside; kind-is = is-kind; body-is = is-body }
+pub entered : {s b : List ℕ} {i : ℕ} {k : Kind} → Laid s → i < count s → k ≡ codesOf (ruleAt s i) →
+    b ≡ take (k .body) (drop (place s i) s) → Entered s b i k
+entered {s} {b} {i} {k} laid inside is-kind is-part =
+    record { laid = laid; inside = inside; kind-is = is-kind; body-is = body-is s i k is-kind b is-part }

@@ -23,12 +23,13 @@ use Rattle.diagram.specs.declared.builder.Builder.{Builder}
 use Rattle.diagram.proofs.Laws.After.{after-nothing, after-then}
 use Rattle.term.specs.Row.{mark, BitIs, BitKnown, RowMeans, RowKnown, Makes}
 use Rattle.term.specs.Bit.{BitMeans}
-use Rattle.term.specs.Add.{NumbersMean, Summing, SumMeans, Placed}
-use Rattle.term.specs.Add.{Places, Addable, OnRows}
+use Rattle.term.specs.Add.{Tallies, NumbersMean, Summing, SumMeans, Placed}
+use Rattle.term.specs.Add.{Places, Tallying, Addable, OnRows}
 use Rattle.term.specs.declared.add.Sum.{Sum}
 use Rattle.term.specs.declared.row.Row as Declared
 use Rattle.term.proofs.Laws.Rows.{rowOf, row-some, row-known, after-row}
 use Rattle.term.proofs.Laws.Sum.{means-known}
+use Rattle.term.proofs.Laws.Count.{tallies-none}
 use Rattle.term.proofs.Laws.OnePlace.{after-is, numbers-after}
 
 -- known bits, then unknown ones
@@ -67,6 +68,11 @@ row-made {n} {cells} {cells′} {s} {carry} {sums} {b} k width {r} means numbers
         let from = ltb-false i (length sums) e in
         rw (unknown-at sums k i from) (means .above i (omega (arith, means .long)) (omega arith))
 
+-- no bit yet
+abbrev first-sum : Builder → List ℕ → Sum
+first-sum b bits =
+    record { at = b; bits = bits; count = 0; carry = 0; tally = record { bits = 0; nodes = 0 }; cut = false }
+
 -- s is a sum so far of the rows r and q, from state b on: what was made of it and what is left are the whole
 pub record Adding (n L : ℕ) (r q : Row.Row) (cells w : List ℕ) (b : Builder) (cells′ w′ : List ℕ)
     (s : Sum) : Type 0 where
@@ -83,7 +89,7 @@ pub record Adding (n L : ℕ) (r q : Row.Row) (cells w : List ℕ) (b : Builder)
 
 module _ {n L : ℕ} {r q : Row.Row} {cells w : List ℕ} {b : Builder} where
   adding-start : (bits : List ℕ) → Alive cells w b → ((k : ℕ) → k < 32 → getD bits k 0 ≡ mark)
-      → Adding n L r q cells w b cells w (record { at = b; bits = bits; count = 0; carry = 0; cut = false })
+      → Adding n L r q cells w b cells w (first-sum b bits)
   unfolding Row.add
   adding-start bits alive blank =
       record {
@@ -194,18 +200,20 @@ pub record AddLoop (L : ℕ) (x y : Declared.Row) (cells w marks : List ℕ) (b 
   pub kept : length cells′ ≡ length cells
   pub kept-w : length w′ ≡ length w
   pub kept-marks : length marks′ ≡ length marks
+  pub tallies : Tallies cells′ marks′ (s .at) L (s .bits) (s .count) (s .tally)
   pub adding : (n : ℕ) (r q : Row.Row) → n ≤ 128 → RowMeans n cells b x r → RowMeans n cells b y q
       → Adding n L r q cells w b cells′ w′ s
 
 module _ {cells w marks : List ℕ} {b : Builder} {L : ℕ} {x y : Declared.Row}
     (addable : Addable cells w marks b L x y) where
   pub loop-start : (bits : List ℕ) → ((k : ℕ) → k < 32 → getD bits k 0 ≡ mark)
-      → AddLoop L x y cells w marks b cells w marks (record { at = b; bits = bits; count = 0; carry = 0; cut = false })
+      → AddLoop L x y cells w marks b cells w marks (first-sum b bits)
   loop-start bits blank =
       record {
         kept = refl;
         kept-w = refl;
         kept-marks = refl;
+        tallies = tallies-none cells marks b L bits;
         adding = λ n r q le is-x is-y. adding-start bits (addable .alive) blank;
       }
 
@@ -242,6 +250,7 @@ module _ {cells w marks : List ℕ} {b : Builder} {L : ℕ} {x y : Declared.Row}
               narrow = omega (arith, addable .left .narrow);
               carry = means-known (means .carry);
               each = λ i below. means-known (means .numbers .each i (omega (arith, means .long)));
+              tallies = loop .tallies;
             },
             (known x (addable .left) more, known y (addable .right) (omega (arith, addable .even))),
           )
@@ -269,12 +278,14 @@ module _ {cells w marks : List ℕ} {b : Builder} {L : ℕ} {x y : Declared.Row}
             (placed le is-x is-y adding) cut
 
         pub loop-next : {marks″ : List ℕ} → length cells″ ≡ length cells′ → length w″ ≡ length w′
-            → length marks″ ≡ length marks′ → s′ .cut ≡ false → AddLoop L x y cells w marks b cells″ w″ marks″ s′
-        loop-next kept kept-w kept-marks on =
+            → length marks″ ≡ length marks′ → Tallying cells″ marks″ L s′ → s′ .cut ≡ false
+            → AddLoop L x y cells w marks b cells″ w″ marks″ s′
+        loop-next kept kept-w kept-marks tallying on =
             record {
               kept = kept ∙ loop .kept;
               kept-w = kept-w ∙ loop .kept-w;
               kept-marks = kept-marks ∙ loop .kept-marks;
+              tallies = tallying on;
               adding = λ n r q le is-x is-y.
                   let adding = loop .adding n r q le is-x is-y in
                   adding-next (is-x .long) (is-y .long ∙ sym (addable .even)) (is-x .narrow) adding more

@@ -26,11 +26,13 @@ use Rattle.diagram.proofs.Laws.After.{after-nothing, after-then, after-known}
 use Rattle.term.specs.Row.{mark, BitIs}
 use Rattle.term.specs.Bit.{BitMeans}
 use Rattle.term.specs.Add.{sumStep, SumMade, Sums, Carries, NumbersMean, Countable, Exceeds, Summing, SumMeans}
-use Rattle.term.specs.Add.{GoesOn, Placed, cutAt}
+use Rattle.term.specs.Add.{Tallies, Tallying, GoesOn, Placed, cutAt}
 use Rattle.term.specs.declared.add.Sum.{Sum}
+use Rattle.term.specs.declared.add.Tally.{Tally}
 use Rattle.term.specs.declared.row.Row as Declared
 use Rattle.term.proofs.Laws.Rows.{is-used, not-mark}
 use Rattle.term.proofs.Laws.Sum.{known-means, means-known, means-after}
+use Rattle.term.proofs.Laws.Count.{tallies-after, tallies-more}
 
 -- ---- a full table
 
@@ -160,6 +162,10 @@ module _ {n L : ℕ} {c : Tree} {sums : List Tree} {p q : Bit} (ar br : Row.Row)
         go (known t) unknown free is = refl
         go unknown unknown free is = refl
 
+-- what is counted doesn't matter after a cut
+pub cut-tallying : {cells marks : List ℕ} {L : ℕ} (r : Sum) → r .cut ≡ true → Tallying cells marks L r
+cut-tallying r is on = absurd (true≢false (sym is ∙ on))
+
 -- one number more for one sum bit more
 numbers-more : {n : ℕ} {cells : List ℕ} {b : Builder} {bits : List ℕ} {sums : List Tree} (i : ℕ) {a : ℕ} {t : Tree}
     → length sums ≡ i → i < length bits → NumbersMean n cells b bits sums → BitMeans n cells b a (known t)
@@ -237,34 +243,37 @@ module _ {n : ℕ} (L : ℕ) (le : n ≤ 128) {c : Tree} {sums : List Tree} (ar 
       go false free (known a) unknown is-x is-y = absurd (not-y (is-y .is free))
       go false free unknown q is-x is-y = absurd (not-x (is-x .is free))
 
+  -- the sum with this bit
+  abbrev next-sum : Builder → ℕ → Tally → Sum
+  next-sum b carry tally =
+      record {
+        at = b;
+        bits = set (s .bits) (s .count) sum;
+        count = s .count + 1;
+        carry = carry;
+        tally = tally;
+        cut = false;
+      }
+
   -- not too many
   pub placed-on : {p q : Bit} {top : Bool} {cells′ w′ : List ℕ} {b′ : Builder} {carry : ℕ}
       → BitMeans n cells (s .at) x p → BitMeans n cells (s .at) y q
-      → Exceeds cells₁ b₁ L (set (s .bits) (s .count) sum) (s .count + 1) false
+      → b₁ .full ≡ false → Exceeds cells₁ b₁ L (set (s .bits) (s .count) sum) (s .count + 1) false
       → top ≡ eqb (length ar) 0 → Carries cells₁ w₁ b₁ half x y (s .carry) top cells′ w′ b′ carry
-      → Placed n L c sums p q ar br cells w s cells′ w′
-      (record { at = b′; bits = set (s .bits) (s .count) sum; count = s .count + 1; carry = carry; cut = false })
-  placed-on {p} {q} {top} {cells′} {w′} {b′} {carry} is-x is-y exceeds is-top carries =
+      → {tally : Tally} → Placed n L c sums p q ar br cells w s cells′ w′ (next-sum b′ carry tally)
+  placed-on {p} {q} {top} {cells′} {w′} {b′} {carry} is-x is-y free₁ exceeds is-top carries {tally} =
       record { stops = λ over. absurd (true≢false (sym over)); goes-on = λ _. go (s .at .full) refl p q is-x is-y }
     where
-      room : b₁ .full ≡ true → ⊥
-      room full = true≢false (sym (exceeds .full full))
-
-      free₁ : (full : Bool) → b₁ .full ≡ full → full ≡ false
-      free₁ true full = absurd (room full)
-      free₁ false free = refl
-
       go : (full : Bool) → s .at .full ≡ full → (p q : Bit)
           → BitMeans n cells (s .at) x p → BitMeans n cells (s .at) y q
-          → GoesOn n L c sums p q ar br cells w s cells′ w′
-          (record { at = b′; bits = set (s .bits) (s .count) sum; count = s .count + 1; carry = carry; cut = false })
-      go true full p q is-x is-y = absurd (room (stuck full .after .stays full))
+          → GoesOn n L c sums p q ar br cells w s cells′ w′ (next-sum b′ carry tally)
+      go true full p q is-x is-y = absurd (true≢false (sym (stuck full .after .stays full) ∙ free₁))
       go false free (known a) (known b) is-x is-y =
           let m = made n a b c le is-x is-y (means .carry) in
           let next =
           carries n _ a b c ar le is-top (m .half-means) (means-after (m .after) is-x) (means-after (m .after) is-y)
           (means-after (m .after) (means .carry)) in
-          let is = add-on n L c sums a b ar br (test m (free₁ (b₁ .full) refl) exceeds) in
+          let is = add-on n L c sums a b ar br (test m free₁ exceeds) in
           let long = length-append sums (sumStep n a b c .value ∷ []) in
           record {
             sum = sumStep n a b c .value;
@@ -300,28 +309,35 @@ module _ {cells w marks : List ℕ} {limit : ℕ} {s : Sum} (summing : Summing c
 module _ {cells w marks : List ℕ} {limit : ℕ} {s : Sum} (summing : Summing cells w marks limit s)
     {n : ℕ} {p q c : Tree} {cells′ w′ : List ℕ} {b′ : Builder} {half sum : ℕ}
     (made : SumMade n cells w (s .at) p q c cells′ w′ b′ half sum) where
-  pub place-countable : s .count < length (s .bits)
-      → Countable cells′ marks b′ limit (set (s .bits) (s .count) sum) (s .count + 1)
-  place-countable inside =
-      record {
-        laid = λ free.
-            let ready = made .after .ready free in
-            record { room = ready .room; small = ready .small; single = ready .single; falls = ready .falls };
-        low = summing .low;
-        marks-room = summing .marks-room;
-        narrow = omega (arith, summing .narrow);
-        each = λ i below. go i below (eqb i (s .count)) refl;
-      }
+  -- the first numbers, this one included
+  place-known : s .count < length (s .bits) → (i : ℕ) → i < s .count + 1
+      → Known b′ (getD (set (s .bits) (s .count) sum) i 0)
+  place-known inside i below = go (eqb i (s .count)) refl
     where
-      go : (i : ℕ) → i < s .count + 1 → (e : Bool) → eqb i (s .count) ≡ e
-          → Known b′ (getD (set (s .bits) (s .count) sum) i 0)
-      go i below true e =
+      go : (e : Bool) → eqb i (s .count) ≡ e → Known b′ (getD (set (s .bits) (s .count) sum) i 0)
+      go true e =
           let here = eqb-true i (s .count) e in
           rw (here, getD-set-same (s .bits) (s .count) sum 0 inside) (means-known (made .sum-means))
-      go i below false e =
+      go false e =
           let other = eqb-false i (s .count) e in
           rw (getD-set-other (s .bits) (s .count) i sum 0 other)
           (after-known (made .after) (summing .each i (omega arith)))
+
+  pub place-countable : s .count < length (s .bits) → b′ .full ≡ false
+      → Countable cells′ marks b′ limit (set (s .bits) (s .count) sum) (s .count + 1) (s .tally)
+  place-countable inside free =
+      let ready = made .after .ready free in
+      record {
+        free = free;
+        laid = record { room = ready .room; small = ready .small; single = ready .single; falls = ready .falls };
+        low = summing .low;
+        marks-room = summing .marks-room;
+        narrow = omega (arith, summing .narrow);
+        each = place-known inside;
+        tallies =
+            tallies-more (s .count) sum
+            (tallies-after (made .after) (summing .alive) (summing .each) (summing .tallies));
+      }
 
   pub place-carries : {x y : ℕ} → Known (s .at) x → Known (s .at) y
       → Alive cells′ w′ b′ × (Known b′ half × (Known b′ x × (Known b′ y × Known b′ (s .carry))))
@@ -335,3 +351,27 @@ module _ {cells w marks : List ℕ} {limit : ℕ} {s : Sum} (summing : Summing c
       ),
     ),
   )
+
+  -- what is counted stays so while the next carry is made
+  module _ {x y : ℕ} {top : Bool} {cells″ w″ : List ℕ} {b″ : Builder} {carry : ℕ} where
+    pub place-tallies : s .count < length (s .bits) → Known (s .at) x → Known (s .at) y
+        → Carries cells′ w′ b′ half x y (s .carry) top cells″ w″ b″ carry → {marks′ : List ℕ} {r : Tally}
+        → Tallies cells′ marks′ b′ limit (set (s .bits) (s .count) sum) (s .count + 1) r
+        → Tallies cells″ marks′ b″ limit (set (s .bits) (s .count) sum) (s .count + 1) r
+    place-tallies inside known-x known-y carries tallies =
+        let all = place-carries known-x known-y in
+        let alive = all .0 in
+        let means : (a : ℕ) → Known b′ a → BitMeans 128 cells′ b′ a (known (treeOf cells′ a)) = known-means alive in
+        let carried =
+        carries 128 _ _ _ _ (left top) (omega arith) (left-top top) (means half (all .1 .0)) (means x (all .1 .1 .0))
+        (means y (all .1 .1 .1 .0)) (means (s .carry) (all .1 .1 .1 .1)) in
+        tallies-after (carried .after) alive (place-known inside) tallies
+      where
+        -- some bits above this one, unless it is the top
+        left : Bool → Row.Row
+        left true = []
+        left false = unknown ∷ []
+
+        left-top : (top : Bool) → top ≡ eqb (length (left top)) 0
+        left-top true = refl
+        left-top false = refl

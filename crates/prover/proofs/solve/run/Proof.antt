@@ -1,12 +1,12 @@
--- `run` works every entry. The loop's invariant: the first i entries have been worked, and their rows stand for their
--- values.
+-- `run` works every entry, or stops when a node had no slot. The loop's invariant: the first i entries have been worked,
+-- and their rows stand for their values.
 use Prim.Native.Nat.{_-_}
 use native.Mathlib.Omega.{arith}
 use mathlib.Core.Path.{_≡_, refl, sym, _∙_}
 use lib.ListN.{length}
 use Rattle.sheet.proofs.Laws.Check.{checked-laid}
 use Rattle.prover.specs.Kept.{Reaches, Runs}
-use Rattle.prover.proofs.Laws.Turn.{Going, going-start, going-next, going-done}
+use Rattle.prover.proofs.Laws.Turn.{Going, going-start, going-next, going-full, going-done}
 use Rattle.prover.proofs.Laws.Turn.{operand-meant, operand-held, before-length}
 use Rattle.prover.proofs.solve.run.Statement.{statement}
 use Rattle.prover.proofs.solve.run.Tie as tie
@@ -51,15 +51,33 @@ entry c =
       room = omega (arith, c .before .loop .inv .1 .0, pre .room);
     }
 
+same-length : tie.Need-same-length Inv-loop μ-loop
+same-length c = c .before .before .loop .inv .0 .after .kept
+
+same-length-2 : tie.Need-same-length-2 Inv-loop μ-loop
+same-length-2 c = c .before .before .loop .inv .1 .0
+
+same-length-3 : tie.Need-same-length-3 Inv-loop μ-loop
+same-length-3 c =
+    let loop = c .before .before in
+    loop .loop .inv .1 .1 .0 ∙ loop .before .before .before .begin .kept .1 .0
+
+-- full before the last entry
+returns : tie.Need-returns Inv-loop μ-loop
+returns c =
+    let loop = c .before .before in
+    let begin = loop .before .before .before .begin .ensures in
+    going-full (loop .loop .inv .0) (begin .1 .0) (begin .1 .1) (c .if1 .taken) _ _
+
 operands-requires : tie.Need-operands-requires Inv-loop μ-loop
-operands-requires c κs = entry (c .before)
+operands-requires c κs = entry (c .before .before)
 
 slice-aggregate-work : tie.Need-slice-aggregate-work Inv-loop μ-loop
-slice-aggregate-work c = sym (c .before .before .before .before .before .before .loop .inv .1 .1 .1)
+slice-aggregate-work c = sym (c .before .before .before .before .before .before .before .loop .inv .1 .1 .1)
 
 work-requires : tie.Need-work-requires Inv-loop μ-loop
 work-requires c κs =
-    let turn = c .before .before .before .before .before in
+    let turn = c .before .before .before .before .before .before in
     let going = turn .before .loop .inv .0 in
     let passed = entry turn .passed in
     let inside = entry turn .inside in
@@ -77,25 +95,25 @@ work-requires c κs =
 keep-requires : tie.Need-keep-requires Inv-loop μ-loop
 keep-requires c κs =
     let at = entry (c .before .before .before .before .before .before .before .before .before .before .before
-    .before .before .before) in
+    .before .before .before .before) in
     omega (arith, at .inside, at .room, checked-laid _ (at .passed) .few)
 
 add-i : tie.Need-add-i Inv-loop μ-loop
 add-i c =
     let at = entry (c .before .before .before .before .before .before .before .before .before .before .before
-    .before .before .before .before .before .before) in
+    .before .before .before .before .before .before .before) in
     omega (arith, at .inside, checked-laid _ (at .passed) .few)
 
 loop-less : tie.Need-loop-less Inv-loop μ-loop
 loop-less c =
     let turn = c .before .before .before .before .before .before .before .before .before .before .before .before
-    .before .before .before .before .before in
+    .before .before .before .before .before .before in
     omega (arith, turn .loop-test .taken)
 
 loop-again : tie.Need-loop-again Inv-loop μ-loop
 loop-again c =
     let work = c .before .before .before .before .before .before .before .before .before .before .before in
-    let turn = work .before .before .before .before .before .before in
+    let turn = work .before .before .before .before .before .before .before in
     let going = turn .before .loop .inv .0 in
     let lengths = turn .before .loop .inv .1 in
     let passed = entry turn .passed in
@@ -141,19 +159,19 @@ element-copy-out-t36 c = omega arith
 element-copy-out-t39 : tie.Need-element-copy-out-t39 Inv-loop μ-loop
 element-copy-out-t39 c = omega arith
 
-same-length : tie.Need-same-length Inv-loop μ-loop
-same-length c = c .before .before .before .before .before .loop .inv .0 .after .kept
+same-length-4 : tie.Need-same-length-4 Inv-loop μ-loop
+same-length-4 c = c .before .before .before .before .before .loop .inv .0 .after .kept
 
-same-length-2 : tie.Need-same-length-2 Inv-loop μ-loop
-same-length-2 c = c .before .before .before .before .before .loop .inv .1 .0
+same-length-5 : tie.Need-same-length-5 Inv-loop μ-loop
+same-length-5 c = c .before .before .before .before .before .loop .inv .1 .0
 
-same-length-3 : tie.Need-same-length-3 Inv-loop μ-loop
-same-length-3 c =
+same-length-6 : tie.Need-same-length-6 Inv-loop μ-loop
+same-length-6 c =
     let loop = c .before .before .before .before .before in
     loop .loop .inv .1 .1 .0 ∙ loop .before .before .before .begin .kept .1 .0
 
-returns : tie.Need-returns Inv-loop μ-loop
-returns c =
+returns-2 : tie.Need-returns-2 Inv-loop μ-loop
+returns-2 c =
     let loop = c .before .before .before .before .before in
     let begin = loop .before .before .before .begin .ensures in
     let many = loop .before .before .before .before .before .before .count .ensures in
@@ -174,6 +192,10 @@ run-spec =
     count-requires
     begin-requires
     loop-holds
+    same-length
+    same-length-2
+    same-length-3
+    returns
     operands-requires
     slice-aggregate-work
     work-requires
@@ -185,7 +207,7 @@ run-spec =
     value-at-requires
     element-copy-out-t36
     element-copy-out-t39
-    same-length
-    same-length-2
-    same-length-3
-    returns)
+    same-length-4
+    same-length-5
+    same-length-6
+    returns-2)

@@ -4,26 +4,26 @@ use mathlib.Core.Path.{sym, _∙_}
 use borrow.Author.Tests.{not-true, not-false}
 use Rattle.meaning.specs.Sheet.{entryAt, entries}
 use Rattle.sheet.specs.Laid.{Suited}
-use Rattle.sheet.proofs.Laws.Sheet.{record-inside, entered, suited}
+use Rattle.sheet.proofs.Laws.Sheet.{part-inside, entered, suited}
 use Rattle.sheet.proofs.Laws.Check.{entry-four, entry-five, Wide, entry-six, entry-none}
 use Rattle.sheet.proofs.check.entry_refusal.Statement.{statement}
 use Rattle.sheet.proofs.check.entry_refusal.Tie as tie
 
 -- the operands fit
-fitting : (c : tie.Else1) → Suited (c .before .before .before .before .before .args .s .now)
-    (c .before .before .body .result .now) (c .before .before .before .before .before .args .i)
-    (c .before .before .before .kind .result)
+fitting : (c : tie.Else1) → Suited (c .before .before .before .before .before .before .args .s .now)
+    (c .before .before .part .result .now) (c .before .before .before .before .before .before .args .i)
+    (c .before .before .before .before .kind .result)
 fitting c =
     suited _ _ _ _
-    (entered (c .before .before .before .before .before .pre .0) (c .before .before .before .before .before .pre .1)
-    (c .before .before .before .kind .ensures) (c .before .before .body .ensures))
+    (entered (c .before .before .before .before .before .before .pre .0) (c .before .before .before .before .before .before .pre .1)
+    (c .before .before .before .before .kind .ensures) (c .before .before .part .ensures))
     (c .before .operands-fit .ensures) (not-false _ (c .if1 .left))
 
 -- and the widths
-past : (c : tie.Else2) → Wide (entries (c .before .before .before .before .before .before .before .args .s .now))
-    (c .before .before .before .before .before .before .before .args .i)
-    (entryAt (c .before .before .before .before .before .before .before .args .s .now)
-    (c .before .before .before .before .before .before .before .args .i))
+past : (c : tie.Else2) → Wide (entries (c .before .before .before .before .before .before .before .before .args .s .now))
+    (c .before .before .before .before .before .before .before .before .args .i)
+    (entryAt (c .before .before .before .before .before .before .before .before .args .s .now)
+    (c .before .before .before .before .before .before .before .before .args .i))
 past c =
     record {
       operands = fitting (c .before .before) .fit;
@@ -33,17 +33,16 @@ past c =
 kind-requires : tie.Need-kind-requires
 kind-requires c κs = search needs
 
-body-requires : tie.Need-body-requires
-body-requires c κs = (
-  record-inside (c .before .before .pre .0) _ (c .before .before .pre .1),
-  c .before .before .pre .0 .bodies _
-      (c .before .before .pre .1),
-)
+cast-part : tie.Need-cast-part
+cast-part c = search needs
+
+part-requires : tie.Need-part-requires
+part-requires c κs = part-inside (c .before .before .before .pre .0) _ _ (c .before .before .before .pre .1) (c .before .kind .ensures)
 
 operands-fit-requires : tie.Need-operands-fit-requires
 operands-fit-requires c κs =
-    entered (c .before .before .before .pre .0) (c .before .before .before .pre .1) (c .before .kind .ensures)
-    (c .body .ensures)
+    entered (c .before .before .before .before .pre .0) (c .before .before .before .before .pre .1) (c .before .before .kind .ensures)
+    (c .part .ensures)
 
 returns : tie.Need-returns
 returns c = entry-four _ _ _ _ (c .before .operands-fit .ensures) (not-true _ (c .if1 .taken))
@@ -71,7 +70,8 @@ entry-refusal-spec =
     tie.close
     (tie.spec
     kind-requires
-    body-requires
+    cast-part
+    part-requires
     operands-fit-requires
     returns
     widths-fit-requires

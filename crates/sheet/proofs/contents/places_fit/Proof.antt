@@ -48,6 +48,9 @@ returns c =
 kind-requires : tie.Need-kind-requires Inv-loop μ-loop
 kind-requires c κs = search needs
 
+cast-at : tie.Need-cast-at Inv-loop μ-loop
+cast-at c = search needs
+
 add-at-2 : tie.Need-add-at-2 Inv-loop μ-loop
 add-at-2 c = omega (arith, small c)
 
@@ -83,6 +86,7 @@ places-fit-spec =
     place-requires
     returns
     kind-requires
+    cast-at
     add-at-2
     add-i
     loop-less

@@ -18,20 +18,23 @@ Inv-loop s i b row many k₀ k =
 abbrev μ-loop : tie.MeasureT-loop
 μ-loop s i b row many k₀ k = many - k
 
+cast-many : tie.Need-cast-many Inv-loop μ-loop
+cast-many c = search needs
+
 loop-holds : tie.Need-loop-holds Inv-loop μ-loop
 loop-holds c = (search needs, fit-begin _ _ _ _)
 
 operand-fits-requires : tie.Need-operand-fits-requires Inv-loop μ-loop
 operand-fits-requires c κs = (
-  c .before .before .before .before .pre,
-  entered-has _ _ _ _ (c .before .before .before .before .pre)
+  c .before .before .before .before .before .pre,
+  entered-has _ _ _ _ (c .before .before .before .before .before .pre)
       (c .loop-test .taken),
 )
 
 returns : tie.Need-returns Inv-loop μ-loop
 returns c =
     left-stop (c .before .before .before .loop .inv .1)
-    (entered-has _ _ _ _ (c .before .before .before .before .before .before .pre)
+    (entered-has _ _ _ _ (c .before .before .before .before .before .before .before .pre)
     (c .before .before .loop-test .taken))
     (sym (c .before .operand-fits .ensures) ∙ not-true _ (c .if1 .taken))
 
@@ -45,7 +48,7 @@ loop-again : tie.Need-loop-again Inv-loop μ-loop
 loop-again c = (
   search needs,
   left-more (c .before .before .before .loop .inv .1)
-      (entered-has _ _ _ _ (c .before .before .before .before .before .before .pre)
+      (entered-has _ _ _ _ (c .before .before .before .before .before .before .before .pre)
       (c .before .before .loop-test .taken))
       (sym (c .before .operand-fits .ensures) ∙ not-false _ (c .if1 .left)),
 )
@@ -53,7 +56,7 @@ loop-again c = (
 returns-2 : tie.Need-returns-2 Inv-loop μ-loop
 returns-2 c =
     left-end (c .before .loop .inv .1)
-    (entered-done _ _ _ _ (c .before .before .before .before .pre) (c .loop-test .left))
+    (entered-done _ _ _ _ (c .before .before .before .before .before .pre) (c .loop-test .left))
 
 pub operands-fit-spec : {M : Type 1} → statement M
 operands-fit-spec =
@@ -61,6 +64,7 @@ operands-fit-spec =
     (tie.spec
     Inv-loop
     μ-loop
+    cast-many
     loop-holds
     operand-fits-requires
     returns

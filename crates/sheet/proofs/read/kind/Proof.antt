@@ -7,15 +7,12 @@ use borrow.Author.Needs.{needs}
 use Rattle.sheet.proofs.read.kind.Statement.{statement}
 use Rattle.sheet.proofs.read.kind.Tie as tie
 
--- src/read.rt:55:26
 number-requires : tie.Need-number-requires
 number-requires c κs = search needs
 
--- src/read.rt:55:5
 kind-of-requires : tie.Need-kind-of-requires
 kind-of-requires c κs = search needs
 
--- src/read.rt:51:1
 returns : tie.Need-returns
 returns c = c .kind-of .ensures ∙ ap (λ (n : ℕ). codesOf (ruleOf n)) (c .before .number .ensures)
 

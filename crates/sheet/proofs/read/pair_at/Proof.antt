@@ -4,31 +4,24 @@ use borrow.Author.Needs.{needs}
 use Rattle.sheet.proofs.read.pair_at.Statement.{statement}
 use Rattle.sheet.proofs.read.pair_at.Tie as tie
 
--- src/read.rt:29:9
 byte-at-requires : tie.Need-byte-at-requires
 byte-at-requires c κs = search needs
 
--- src/read.rt:30:27
 add-byte-at : tie.Need-add-byte-at
 add-byte-at c = search needs
 
--- src/read.rt:30:9
 byte-at-requires-2 : tie.Need-byte-at-requires-2
 byte-at-requires-2 c κs = search needs
 
--- src/read.rt:31:12
 mul-result : tie.Need-mul-result
 mul-result c = search needs
 
--- src/read.rt:31:6
 add-result : tie.Need-add-result
 add-result c = search needs
 
--- src/read.rt:31:5
 cast-result : tie.Need-cast-result
 cast-result c = search needs
 
--- src/read.rt:25:1
 returns : tie.Need-returns
 returns c = (
   pair-at (c .before .before .before .args .s .now) (c .before .before .before .args .at)

@@ -19,20 +19,23 @@ Inv-loop s i b row many k₀ k =
 abbrev μ-loop : tie.MeasureT-loop
 μ-loop s i b row many k₀ k = many - k
 
+cast-many : tie.Need-cast-many Inv-loop μ-loop
+cast-many c = search needs
+
 loop-holds : tie.Need-loop-holds Inv-loop μ-loop
 loop-holds c = (search needs, own-begin _ _ _)
 
 own-width-requires : tie.Need-own-width-requires Inv-loop μ-loop
 own-width-requires c κs = (
-  c .before .before .before .before .pre,
-  entered-has _ _ _ _ (c .before .before .before .before .pre .entered)
+  c .before .before .before .before .before .pre,
+  entered-has _ _ _ _ (c .before .before .before .before .before .pre .entered)
       (c .loop-test .taken),
 )
 
 returns : tie.Need-returns Inv-loop μ-loop
 returns c =
     left-stop (c .before .before .before .loop .inv .1)
-    (entered-has _ _ _ _ (c .before .before .before .before .before .before .pre .entered)
+    (entered-has _ _ _ _ (c .before .before .before .before .before .before .before .pre .entered)
     (c .before .before .loop-test .taken))
     (sym (c .before .own-width .ensures) ∙ not-true _ (c .if1 .taken))
 
@@ -46,7 +49,7 @@ loop-again : tie.Need-loop-again Inv-loop μ-loop
 loop-again c = (
   search needs,
   left-more (c .before .before .before .loop .inv .1)
-      (entered-has _ _ _ _ (c .before .before .before .before .before .before .pre .entered)
+      (entered-has _ _ _ _ (c .before .before .before .before .before .before .before .pre .entered)
       (c .before .before .loop-test .taken))
       (sym (c .before .own-width .ensures) ∙ not-false _ (c .if1 .left)),
 )
@@ -54,7 +57,7 @@ loop-again c = (
 returns-2 : tie.Need-returns-2 Inv-loop μ-loop
 returns-2 c =
     left-end (c .before .loop .inv .1)
-    (entered-done _ _ _ _ (c .before .before .before .before .pre .entered) (c .loop-test .left))
+    (entered-done _ _ _ _ (c .before .before .before .before .before .pre .entered) (c .loop-test .left))
 
 pub own-widths-spec : {M : Type 1} → statement M
 own-widths-spec =
@@ -62,6 +65,7 @@ own-widths-spec =
     (tie.spec
     Inv-loop
     μ-loop
+    cast-many
     loop-holds
     own-width-requires
     returns

@@ -64,7 +64,7 @@ returns c =
     let test = made .before .before .before .before .before .before in
     let at = test .before .before in
     rw (c .worked .ensures)
-    (loop-stop (at .before .before .before .before .pre) (at .loop .inv) (test .if1 .taken) (made .place .ensures)
+    (loop-stop (at .before .before .before .before .pre) (at .loop .inv) (test .if1 .taken) (made .place .ensures .0)
     (c .before .if2 .taken))
 
 loop-less : tie.Need-loop-less Inv-loop μ-loop
@@ -74,7 +74,8 @@ loop-less c =
     let at = test .before .before in
     let more = test .if1 .taken in
     let one =
-    loop-counts (at .before .before .before .before .pre) (at .loop .inv) more (made .place .ensures) (c .if2 .left) in
+    loop-counts (at .before .before .before .before .pre) (at .loop .inv) more (made .place .ensures .0)
+    (c .if2 .left) in
     omega arith
 
 loop-again : tie.Need-loop-again Inv-loop μ-loop
@@ -82,8 +83,9 @@ loop-again c =
     let made = c .before .before .before .before .before .before .before in
     let test = made .before .before .before .before .before .before in
     let at = test .before .before in
-    loop-next (at .before .before .before .before .pre) (at .loop .inv) (test .if1 .taken) (made .place .ensures)
-    (made .place .kept .1 .0) (made .place .kept .1 .1 .0) (made .place .kept .1 .1 .1 .0) (c .if2 .left)
+    loop-next (at .before .before .before .before .pre) (at .loop .inv) (test .if1 .taken) (made .place .ensures .0)
+    (made .place .kept .1 .0) (made .place .kept .1 .1 .0) (made .place .kept .1 .1 .1 .0) (made .place .ensures .1)
+    (c .if2 .left)
 
 worked-requires-2 : tie.Need-worked-requires-2 Inv-loop μ-loop
 worked-requires-2 c κs = search needs

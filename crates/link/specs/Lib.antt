@@ -1,0 +1,2 @@
+-- What the flattened answers say.
+pub mod Flat
