@@ -23,11 +23,11 @@ pub fn own_process() {
     }
 }
 
-/// The first line that a process prints, and its time in seconds; it gets 20 seconds.
+/// The first line that a process prints, and its time in seconds; it gets 5 seconds.
 fn process(command: &[&str], input: &std::path::Path) -> (String, f64) {
     let begun = Instant::now();
     let out = Command::new("timeout")
-        .arg("20")
+        .arg("5")
         .args(command)
         .stdin(std::fs::File::open(input).unwrap())
         .stderr(Stdio::null())
@@ -40,7 +40,7 @@ fn process(command: &[&str], input: &std::path::Path) -> (String, f64) {
 pub fn table() {
     let folder = std::env::temp_dir();
     let own = std::env::current_exe().unwrap();
-    println!("\nms a process, 20 s at most; ours at {SLOTS} slots.\n");
+    println!("\nms a process, 5 s at most; ours at {SLOTS} slots.\n");
     println!("| sheet | ours | | z3 | | cvc5 | | boolector | |\n|---|---|---|---|---|---|---|---|---|");
     for named in sheets::all() {
         let (bytes, text) = (folder.join("bench.sheet"), folder.join("bench.smt2"));
