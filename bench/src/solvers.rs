@@ -23,6 +23,12 @@ pub fn own_process() {
     }
 }
 
+/// The formula as text: the file beside the sheet where there is one (boolector reads no other), else our own writer's.
+fn text_of(named: &sheets::Named) -> String {
+    let beside = format!("{}/sheets/{}.smt2", env!("CARGO_MANIFEST_DIR"), named.name);
+    std::fs::read_to_string(beside).unwrap_or_else(|_| smt::text(&sheet::check(&named.sheet).unwrap()))
+}
+
 /// The first line that a process prints, and its time in seconds; it gets 5 seconds.
 fn process(command: &[&str], input: &std::path::Path) -> (String, f64) {
     let begun = Instant::now();
@@ -45,7 +51,7 @@ pub fn table() {
     for named in sheets::all() {
         let (bytes, text) = (folder.join("bench.sheet"), folder.join("bench.smt2"));
         std::fs::write(&bytes, &named.sheet).unwrap();
-        std::fs::write(&text, smt::text(&sheet::check(&named.sheet).unwrap())).unwrap();
+        std::fs::write(&text, text_of(&named)).unwrap();
         let mut line = format!("| {} |", named.name);
         let commands: [(&[&str], &std::path::Path); 4] = [
             (&[own.to_str().unwrap(), "solve"], &bytes),
