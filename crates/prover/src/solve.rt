@@ -97,7 +97,7 @@ fn run_somewhere(s: &[u8], limit: usize, t: &mut [Cell], work: &mut [u32]) -> Ou
     requires { ⌜ Runs (now s) limit (now t) (now work) ⌝ }
     ensures { λ r. ⌜ Ran (now (s .entry)) limit (now (t .entry)) (now (t .exit)) (r .at) (r .must) (r .may) ⌝ }
 {
-    if t.len() <= 6144 {
+    if table::slots(t) <= 2048 {
         let mut own = [0u32; 16384];
         return run(s, limit, t, work, &mut own);
     }
