@@ -1,4 +1,6 @@
 // Lists every sheet of data/: its file's name, then what the program prints for it.
+#![tactic(auto)]
+
 use libc::STDOUT_FILENO;
 use listing::program::program;
 

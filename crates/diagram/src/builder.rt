@@ -13,7 +13,7 @@ use crate::table::Cell;
 use crate::{function, scratch, table};
 
 // How many slots are used, whether a node found no room, and how scratch is divided: heads and links, memo entries.
-#[derive(Drop)]
+#[derive(Clone, Copy)]
 pub struct Builder {
     pub used: usize,
     pub full: bool,
@@ -22,7 +22,7 @@ pub struct Builder {
 }
 
 // The next state, and the number made.
-#[derive(Drop)]
+#[derive(Clone, Copy)]
 pub struct Made {
     pub at: Builder,
     pub number: u32,

@@ -20,7 +20,7 @@ pub const SIGNED_TOP: u32 = 178; // (a and not b) or ((a agrees with b) and c)
 pub const CHOICE: u32 = 202; // b where a, else c
 
 // A function and its operands.
-#[derive(Drop)]
+#[derive(Clone, Copy)]
 pub struct Asked {
     pub f: u32,
     pub a: u32,
@@ -29,7 +29,7 @@ pub struct Asked {
 }
 
 // An answer found at once, or none.
-#[derive(Drop)]
+#[derive(Clone, Copy)]
 pub struct Quick {
     pub done: bool,
     pub number: u32,

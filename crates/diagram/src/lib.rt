@@ -7,6 +7,8 @@
 // scratch   the index by which a node is found, and the memo of steps
 // builder   find or add a node; one step; one quantifier step
 // count     the distinct nodes of some diagrams
+#![tactic(auto)]
+
 pub mod builder;
 pub mod count;
 pub mod function;

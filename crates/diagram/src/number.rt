@@ -1,7 +1,7 @@
 // The number of a diagram: 0 is false, 1 is true, and slot k of the table holds node k + 2.
 ghost use Rattle.std.specs.Prelude.{◌≡◌};
 
-#[derive(Drop)]
+#[derive(Clone, Copy)]
 pub struct Diagram(pub u32);
 
 impl Diagram {

@@ -24,7 +24,7 @@ fn entry_of(covered: usize, memo: usize, op: u32, a: u32, b: u32, c: u32) -> usi
 }
 
 // The five numbers of a memo entry: the operation plus one, the operands, the result.
-#[derive(Drop)]
+#[derive(Clone, Copy)]
 struct Entry {
     op: u32,
     a: u32,

@@ -137,7 +137,7 @@ pub fn high_part(t: &[Cell], l: u32, n: u32) -> u32
 }
 
 // The lowest level of three numbers, and their parts there.
-#[derive(Drop)]
+#[derive(Clone, Copy)]
 pub struct Parts {
     pub level: u32,
     pub a0: u32,

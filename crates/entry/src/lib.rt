@@ -2,5 +2,7 @@
 //
 // value    an entry's value, from its operands' values
 // rows     the entries' values, 32 numbers an entry
+#![tactic(auto)]
+
 pub mod rows;
 pub mod value;

@@ -23,7 +23,7 @@ use term::row::{Row, Worked};
 use term::{add, bitwise, row};
 
 // The values of up to three operands.
-#[derive(Drop)]
+#[derive(Clone, Copy)]
 pub struct Operands {
     pub x: Row,
     pub y: Row,

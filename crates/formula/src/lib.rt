@@ -3,6 +3,8 @@
 // pair      the pair; not, and, or
 // compare   equal, unsigned and signed ≤
 // quantify  exists and forall
+#![tactic(auto)]
+
 pub mod compare;
 pub mod pair;
 pub mod quantify;

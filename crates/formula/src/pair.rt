@@ -9,14 +9,14 @@ use diagram::builder::{Builder, Made};
 use diagram::function;
 use diagram::table::Cell;
 
-#[derive(Drop)]
+#[derive(Clone, Copy)]
 pub struct Pair {
     pub must: u32,
     pub may: u32,
 }
 
 // The next state of the builder, and the pair made.
-#[derive(Drop)]
+#[derive(Clone, Copy)]
 pub struct Judged {
     pub at: Builder,
     pub pair: Pair,

@@ -11,7 +11,7 @@ use diagram::builder::{Builder, Made};
 use diagram::table::Cell;
 
 // A variable's levels, bit 0's first.
-#[derive(Drop)]
+#[derive(Clone, Copy)]
 pub struct Levels {
     pub of: [u32; 32],
     pub count: usize,

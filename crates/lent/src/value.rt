@@ -10,7 +10,7 @@ use crate::refusal;
 use diagram::table;
 use diagram::table::Cell;
 
-#[derive(Drop)]
+#[derive(Clone, Copy)]
 pub enum Valued {
     Refused(u32),
     Bit { bit: u32, passed: u32 },

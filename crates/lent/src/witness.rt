@@ -11,14 +11,14 @@ use crate::refusal;
 use diagram::table;
 use diagram::table::Cell;
 
-#[derive(Drop)]
+#[derive(Clone, Copy)]
 pub enum Witnessed {
     Refused(u32),
     Written,
 }
 
 // A level's byte, and the number that is left.
-#[derive(Drop)]
+#[derive(Clone, Copy)]
 struct Choice {
     byte: u8,
     rest: u32,

@@ -1,4 +1,6 @@
 // The functions exported to Rust and C: the enums of solve, value and witness, flattened into numbers.
+#![tactic(auto)]
+
 ghost use Rattle.std.specs.Prelude.{◌≡◌, length};
 ghost use Rattle.meaning.specs.Solve as Solve;
 ghost use Rattle.meaning.specs.Value as Value;
@@ -15,7 +17,7 @@ use prover::solve;
 
 // Document 01's number, then the verdict (1 sat, 2 unsat, 3 unknown), must, may and the slots used; zeros on a refusal.
 #[repr(C)]
-#[derive(Drop)]
+#[derive(Clone, Copy)]
 pub struct Solved {
     pub number: u32,
     pub verdict: u32,
@@ -26,7 +28,7 @@ pub struct Solved {
 
 // Document 01's number, then the bit and the nodes passed; zeros on a refusal.
 #[repr(C)]
-#[derive(Drop)]
+#[derive(Clone, Copy)]
 pub struct Valued {
     pub number: u32,
     pub bit: u32,

@@ -1,4 +1,6 @@
 // What the program prints, written into a lent buffer: the listing of document 01.
+#![tactic(auto)]
+
 pub mod answer;
 pub mod lines;
 pub mod program;

@@ -1,4 +1,6 @@
 // Reads a sheet from standard input, 2,563 bytes at most, and prints its listing.
+#![tactic(auto)]
+
 use libc::{STDIN_FILENO, STDOUT_FILENO};
 use listing::program::program;
 

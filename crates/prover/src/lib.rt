@@ -2,5 +2,7 @@
 //
 // answer   what solve gives back
 // solve    refusals, the run over all entries, what is left in the buffers
+#![tactic(auto)]
+
 pub mod answer;
 pub mod solve;

@@ -49,7 +49,7 @@ fn operands(s: &[u8], kept: &[u32], i: usize) -> Operands
 }
 
 // The last state, and the numbers of must and may.
-#[derive(Drop)]
+#[derive(Clone, Copy)]
 struct Outcome {
     at: Builder,
     must: u32,

@@ -13,7 +13,7 @@ use crate::read::{count, kind, part};
 use crate::widths::{in_range, widths_fit};
 
 // Document 01's answers, by what is wrong; specs/Answer.antt gives each its number.
-#[derive(Drop)]
+#[derive(Clone, Copy)]
 pub enum Checked {
     Passed,
     Short,

@@ -4,7 +4,7 @@ ghost use Rattle.meaning.specs.Kind.{rule_of};
 ghost use Rattle.sheet.specs.Kind.{codes_of};
 
 // A row of the table, all bytes: the shorter the table the faster. specs/Kind.antt gives its numbers from the definition's row.
-#[derive(Drop)]
+#[derive(Clone, Copy)]
 pub struct Kind {
     pub sort: u8,
     // in bytes

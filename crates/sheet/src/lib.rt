@@ -1,4 +1,6 @@
 // Reads a sheet: the kind table, what stands where, the levels of the variables' bits, and the check.
+#![tactic(auto)]
+
 pub mod check;
 pub mod contents;
 pub mod kind;

@@ -15,7 +15,7 @@ use diagram::table::Cell;
 use diagram::{count, function, table};
 
 // The next state, a xor b, and the sum bit.
-#[derive(Drop)]
+#[derive(Clone, Copy)]
 struct Summed {
     at: Builder,
     half: u32,
@@ -23,7 +23,7 @@ struct Summed {
 }
 
 // What is counted of a sum: the nodes of its first `bits` sum bits are marked, and there are `nodes` of them.
-#[derive(Drop)]
+#[derive(Clone, Copy)]
 struct Tally {
     bits: usize,
     nodes: usize,
@@ -31,7 +31,7 @@ struct Tally {
 
 // A sum so far: the state, the sum bits, how many they are, the carry into the next, and what is counted. Cut: the next
 // bits are unknown.
-#[derive(Drop)]
+#[derive(Clone, Copy)]
 struct Sum {
     at: Builder,
     bits: [u32; 32],

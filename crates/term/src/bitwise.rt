@@ -15,7 +15,7 @@ use diagram::number::Diagram;
 use diagram::table::Cell;
 
 // The condition of an if-then-else has two numbers, must and may.
-#[derive(Drop)]
+#[derive(Clone, Copy)]
 pub enum Operation {
     Not,
     And,

@@ -3,6 +3,8 @@
 // row       the row, and what moves its bits: constant, shifts, concat, extract, extensions
 // bitwise   not, and, or, xor, if-then-else: one step a bit
 // add       addition at a limit, negation, multiplication
+#![tactic(auto)]
+
 pub mod add;
 pub mod bitwise;
 pub mod row;

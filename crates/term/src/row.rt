@@ -7,14 +7,14 @@ ghost use Rattle.term.specs.Row.{places};
 use diagram::builder::Builder;
 use diagram::number::Diagram;
 
-#[derive(Drop)]
+#[derive(Clone, Copy)]
 pub struct Row {
     pub bits: [u32; 32],
     pub width: usize,
 }
 
 // The next state of the builder, and the row made.
-#[derive(Drop)]
+#[derive(Clone, Copy)]
 pub struct Worked {
     pub at: Builder,
     pub row: Row,
