@@ -87,13 +87,22 @@ module _ {n : ℕ} {ρ : Assignment} where
       let ps = step_says is_xor px (pc (omega arith)) (leaf_says false) in
       let carried = next_carry_says px pa pb (pc (omega arith)) ar in
       let sums' = sums ++ (sum_bit n a b carry ∷ []) in
-      let rest = add_from_fits L _ sums' _ ar br xs ys carried (fits_tail p) (fits_tail q) (omega arith) in
+      let rest = add_from_fits L (carry_out n a b carry ar) sums' _ ar br xs ys carried (fits_tail p) (fits_tail q) (omega arith) in
       let cut = cut_fits c (known a ∷ ar) (x ∷ xs) (y ∷ ys) p even in
       rw (add_from_known n L carry sums a ar b br) (cond_fits (too_many n L carry sums a b) cut (append_fits ps rest))
   add_from_fits L carry sums c (known a ∷ ar) (unknown ∷ br) (x ∷ xs) (y ∷ ys) pc p q even =
       cut_fits c (known a ∷ ar) (x ∷ xs) (y ∷ ys) p even
   add_from_fits L carry sums c (unknown ∷ ar) (b ∷ br) (x ∷ xs) (y ∷ ys) pc p q even =
       cut_fits c (unknown ∷ ar) (x ∷ xs) (y ∷ ys) p even
+  add_from_fits L carry sums c [] b (x ∷ xs) ys pc p q even = elim p [ ]
+  add_from_fits L carry sums c (a ∷ ar) [] [] ys pc p q even = elim p [ ]
+  add_from_fits L carry sums c (a ∷ ar) [] (x ∷ xs) (y ∷ ys) pc p q even = elim q [ ]
+  add_from_fits L carry sums c (known a ∷ ar) (known b ∷ br) [] ys pc p q even = elim p [ ]
+  add_from_fits L carry sums c (known a ∷ ar) (known b ∷ br) (x ∷ xs) [] pc p q even = elim q [ ]
+  add_from_fits L carry sums c (known a ∷ ar) (unknown ∷ br) [] ys pc p q even = elim p [ ]
+  add_from_fits L carry sums c (known a ∷ ar) (unknown ∷ br) (x ∷ xs) [] pc p q even = elim q [ ]
+  add_from_fits L carry sums c (unknown ∷ ar) (b ∷ br) [] ys pc p q even = elim p [ ]
+  add_from_fits L carry sums c (unknown ∷ ar) (b ∷ br) (x ∷ xs) [] pc p q even = elim q [ ]
 
   pub add_fits : (L : ℕ) {a b : Row} {xs ys : List Bool} → Fits n ρ a xs → Fits n ρ b ys → length xs ≡ length ys →
       Fits n ρ (add n L a b).value (Plain.sum false xs ys)
@@ -128,6 +137,8 @@ next_carry_same : (n : ℕ) (x a b carry : Tree) (r s : Row) → Below r s →
     (next_carry n x a b carry r).value ≡ (next_carry n x a b carry s).value
 next_carry_same n x a b carry [] [] p = refl
 next_carry_same n x a b carry (c ∷ r) (d ∷ s) p = refl
+next_carry_same n x a b carry [] (d ∷ s) p = elim p [ ]
+next_carry_same n x a b carry (c ∷ r) [] p = elim p [ ]
 
 -- a count above M is above L
 cond_below : (L M k : ℕ) → L ≤ M → {a b a' b' : Row} → Below a a' → Below a b' → Below b b' →
@@ -165,6 +176,15 @@ add_from_below n L M le carry sums (known a ∷ ar) (unknown ∷ br) (a' ∷ ar'
     cut_below n M carry sums p q even
 add_from_below n L M le carry sums (unknown ∷ ar) (b ∷ br) (a' ∷ ar') (b' ∷ br') p q even =
     cut_below n M carry sums p q even
+add_from_below n L M le carry sums [] b (a' ∷ ar') b' p q even = elim p [ ]
+add_from_below n L M le carry sums (a ∷ ar) [] [] b' p q even = elim p [ ]
+add_from_below n L M le carry sums (a ∷ ar) [] (a' ∷ ar') (b' ∷ br') p q even = elim q [ ]
+add_from_below n L M le carry sums (known a ∷ ar) (known b ∷ br) [] b' p q even = elim p [ ]
+add_from_below n L M le carry sums (known a ∷ ar) (known b ∷ br) (a' ∷ ar') [] p q even = elim q [ ]
+add_from_below n L M le carry sums (known a ∷ ar) (unknown ∷ br) [] b' p q even = elim p [ ]
+add_from_below n L M le carry sums (known a ∷ ar) (unknown ∷ br) (a' ∷ ar') [] p q even = elim q [ ]
+add_from_below n L M le carry sums (unknown ∷ ar) (b ∷ br) [] b' p q even = elim p [ ]
+add_from_below n L M le carry sums (unknown ∷ ar) (b ∷ br) (a' ∷ ar') [] p q even = elim q [ ]
 
 pub add_below : (n : ℕ) {L M : ℕ} → L ≤ M → {a b a' b' : Row} → Below a a' → Below b b' → length a ≡ length b →
     Below (add n L a b).value (add n M a' b').value

@@ -24,12 +24,16 @@ pub each_bit_fits : {n : ℕ} {ρ : Assignment} (f : Bit → Work Bit) (g : Bool
 each_bit_fits f g rule [] [] p = Fits.end
 each_bit_fits f g rule (a ∷ ar) (x ∷ xs) p =
     append_fits (rule a x (fits_head p)) (each_bit_fits f g rule ar xs (fits_tail p))
+each_bit_fits {n = n} {ρ = ρ} f g rule [] (x ∷ xs) p = elim p [ ]
+each_bit_fits {n = n} {ρ = ρ} f g rule (a ∷ ar) [] p = elim p [ ]
 
 pub each_bit_below : (f g : Bit → Work Bit) → ((a b : Bit) → BelowBit a b → BelowBit (f a).value (g b).value) →
     (a b : Row) → Below a b → Below (each_bit f a).value (each_bit g b).value
 each_bit_below f g rule [] [] p = Below.end
 each_bit_below f g rule (a ∷ ar) (b ∷ br) p =
     append_below (rule a b (below_head p)) (each_bit_below f g rule ar br (below_tail p))
+each_bit_below f g rule [] (b ∷ br) p = elim p [ ]
+each_bit_below f g rule (a ∷ ar) [] p = elim p [ ]
 
 pub each_bit_length : (f : Bit → Work Bit) (a : Row) → length (each_bit f a).value ≡ length a
 each_bit_length f [] = refl
@@ -52,6 +56,11 @@ both_bits_fits f g rule (a ∷ ar) [] (x ∷ xs) [] p q = Fits.end
 both_bits_fits f g rule (a ∷ ar) (b ∷ br) (x ∷ xs) (y ∷ ys) p q =
     append_fits (rule a b x y (fits_head p) (fits_head q))
     (both_bits_fits f g rule ar br xs ys (fits_tail p) (fits_tail q))
+both_bits_fits {n = n} {ρ = ρ} f g rule [] b (x ∷ xs) ys p q = elim p [ ]
+both_bits_fits {n = n} {ρ = ρ} f g rule (a ∷ ar) [] [] ys p q = elim p [ ]
+both_bits_fits {n = n} {ρ = ρ} f g rule (a ∷ ar) [] (x ∷ xs) (y ∷ ys) p q = elim q [ ]
+both_bits_fits {n = n} {ρ = ρ} f g rule (a ∷ ar) (b ∷ br) [] ys p q = elim p [ ]
+both_bits_fits {n = n} {ρ = ρ} f g rule (a ∷ ar) (b ∷ br) (x ∷ xs) [] p q = elim q [ ]
 
 pub both_bits_below : (f g : Bit → Bit → Work Bit) →
     ((a b a' b' : Bit) → BelowBit a a' → BelowBit b b' → BelowBit (f a b).value (g a' b').value) →
@@ -61,6 +70,11 @@ both_bits_below f g rule (a ∷ ar) [] (a' ∷ ar') [] p q = Below.end
 both_bits_below f g rule (a ∷ ar) (b ∷ br) (a' ∷ ar') (b' ∷ br') p q =
     append_below (rule a b a' b' (below_head p) (below_head q))
     (both_bits_below f g rule ar br ar' br' (below_tail p) (below_tail q))
+both_bits_below f g rule [] b (a' ∷ ar') b' p q = elim p [ ]
+both_bits_below f g rule (a ∷ ar) [] [] b' p q = elim p [ ]
+both_bits_below f g rule (a ∷ ar) [] (a' ∷ ar') (b' ∷ br') p q = elim q [ ]
+both_bits_below f g rule (a ∷ ar) (b ∷ br) [] b' p q = elim p [ ]
+both_bits_below f g rule (a ∷ ar) (b ∷ br) (a' ∷ ar') [] p q = elim q [ ]
 
 pub both_bits_sure : (f : Bit → Bit → Work Bit) → ((t u : Tree) → sure_bit (f (known t) (known u)).value ≡ true) →
     (a b : Row) → sure a ≡ true → sure b ≡ true → sure (both_bits f a b).value ≡ true

@@ -235,11 +235,20 @@ module _ {n : ℕ} {ρ : Assignment} where
       sure a ≡ true → sure b ≡ true → Says n ρ (equal_from n t a b).value (Plain.equal_from r xs ys)
   equal_from_says [] b [] ys s p q sure_a sure_b = s
   equal_from_says (a ∷ ar) [] (x ∷ xs) [] s p q sure_a sure_b = s
-  equal_from_says (known a ∷ ar) (known b ∷ br) (x ∷ xs) (y ∷ ys) s p q sure_a sure_b =
+  equal_from_says {t = t} (known a ∷ ar) (known b ∷ br) (x ∷ xs) (y ∷ ys) s p q sure_a sure_b =
       let e = step_says agree (fits_head p) (fits_head q) (leaf_says false) in
-      equal_from_says ar br xs ys (step_says is_and s e (leaf_says false)) (fits_tail p) (fits_tail q) sure_a sure_b
+      equal_from_says {t = next n t (known a) (known b)} ar br xs ys (step_says is_and s e (leaf_says false)) (fits_tail p) (fits_tail q) sure_a sure_b
   equal_from_says (known a ∷ ar) (unknown ∷ br) (x ∷ xs) (y ∷ ys) s p q sure_a sure_b = absurd (false≢true sure_b)
   equal_from_says (unknown ∷ ar) (b ∷ br) (x ∷ xs) (y ∷ ys) s p q sure_a sure_b = absurd (false≢true sure_a)
+  equal_from_says {t = t} {r = r} [] b (x ∷ xs) ys s p q sure_a sure_b = elim p [ ]
+  equal_from_says {t = t} {r = r} (a ∷ ar) [] [] ys s p q sure_a sure_b = elim p [ ]
+  equal_from_says {t = t} {r = r} (a ∷ ar) [] (x ∷ xs) (y ∷ ys) s p q sure_a sure_b = elim q [ ]
+  equal_from_says {t = t} {r = r} (known a ∷ ar) (known b ∷ br) [] ys s p q sure_a sure_b = elim p [ ]
+  equal_from_says {t = t} {r = r} (known a ∷ ar) (known b ∷ br) (x ∷ xs) [] s p q sure_a sure_b = elim q [ ]
+  equal_from_says {t = t} {r = r} (known a ∷ ar) (unknown ∷ br) [] ys s p q sure_a sure_b = elim p [ ]
+  equal_from_says {t = t} {r = r} (known a ∷ ar) (unknown ∷ br) (x ∷ xs) [] s p q sure_a sure_b = elim q [ ]
+  equal_from_says {t = t} {r = r} (unknown ∷ ar) (b ∷ br) [] ys s p q sure_a sure_b = elim p [ ]
+  equal_from_says {t = t} {r = r} (unknown ∷ ar) (b ∷ br) (x ∷ xs) [] s p q sure_a sure_b = elim q [ ]
 
   -- else it holds wherever the plain bits are equal
   equal_from_may : (t : Tree) (r : Bool) (a b : Row) (xs ys : List Bool) → Good n t → (r ≡ true → holds t ρ ≡ true) →
@@ -250,6 +259,11 @@ module _ {n : ℕ} {ρ : Assignment} where
       rw (equal_from_next n t a ar b br)
       (equal_from_may (next n t a b) (r && beq x y) ar br xs ys (next_good n t a b good)
       (next_may t r good h (fits_head p) (fits_head q)) (fits_tail p) (fits_tail q) e)
+  equal_from_may t r [] b (x ∷ xs) ys good h p q e = elim p [ ]
+  equal_from_may t r (a ∷ ar) [] [] ys good h p q e = elim p [ ]
+  equal_from_may t r (a ∷ ar) [] (x ∷ xs) (y ∷ ys) good h p q e = elim q [ ]
+  equal_from_may t r (a ∷ ar) (b ∷ br) [] ys good h p q e = elim p [ ]
+  equal_from_may t r (a ∷ ar) (b ∷ br) (x ∷ xs) [] good h p q e = elim q [ ]
 
   pub equal_encloses : {a b : Row} {xs ys : List Bool} → Fits n ρ a xs → Fits n ρ b ys →
       Encloses n ρ (equal n a b).value (Plain.equal_from true xs ys)
@@ -290,11 +304,19 @@ equal_from_wider n t t' (a ∷ ar) (b ∷ br) (a' ∷ ar') (b' ∷ br') good goo
     (next_good n t a b good) (next_good n t' a' b' good') (below_tail p) (below_tail q) ρ
     (next_wider n t t' good good' (below_head p) (below_head q) ρ h)
     (rw (equal_from_next n t' a' ar' b' br') at e))
+equal_from_wider n t t' [] b (a' ∷ ar') b' good good' p q ρ h e = elim p [ ]
+equal_from_wider n t t' (a ∷ ar) [] [] b' good good' p q ρ h e = elim p [ ]
+equal_from_wider n t t' (a ∷ ar) [] (a' ∷ ar') (b' ∷ br') good good' p q ρ h e = elim q [ ]
+equal_from_wider n t t' (a ∷ ar) (b ∷ br) [] b' good good' p q ρ h e = elim p [ ]
+equal_from_wider n t t' (a ∷ ar) (b ∷ br) (a' ∷ ar') [] good good' p q ρ h e = elim q [ ]
 
 below_sure : (a a' : Row) → Below a a' → sure a ≡ true → a ≡ a'
 below_sure [] [] p s = refl
 below_sure (known t ∷ a) (b ∷ a') (keep p) s = ap (λ r. known t ∷ r) (below_sure a a' p s)
 below_sure (unknown ∷ a) (b ∷ a') p s = absurd (false≢true s)
+below_sure [] (b ∷ a') p s = elim p [ ]
+below_sure (known t ∷ a) [] p s = elim p [ ]
+below_sure (unknown ∷ a) [] p s = elim p [ ]
 
 pub equal_wider : (n : ℕ) {a b a' b' : Row} → Below a a' → Below b b' → Wider (equal n a b).value (equal n a' b').value
 unfolding equal

@@ -78,7 +78,7 @@ having_stands : (b k : ℕ) (es : List Entry) (i n : ℕ) → n ≡ k + i → b 
 having_stands b k [] i n at has = absurd (omega arith)
 having_stands b k (e ∷ es) zero n at has =
     let here : n ≡ k = omega arith in
-    rw (lt-ltb b (variable_bits e) has, here) (cons_here k b (having b (suc k) es))
+    rw (lt-ltb b (variable_bits e) has) (rw (← here) (cons_here n b (having b (suc n) es)))
 having_stands b k (e ∷ es) (suc i) n at has =
     go (ltb b (variable_bits e)) (having_stands b (suc k) es i n (omega arith) has)
   where

@@ -67,6 +67,8 @@ module _ {n : ℕ} {ρ : Assignment} where
       let added = add_fits L r (partial_fits j p (fits_head q)) same in
       let even' = sum_length false acc (Plain.partial j xs y) same ∙ even in
       multiply_from_fits L (suc j) a _ br xs _ ys p added (fits_tail q) even' (omega arith)
+  multiply_from_fits L j a sum [] xs acc (y ∷ ys) p r q even left = elim q [ ]
+  multiply_from_fits L j a sum (b ∷ br) xs acc [] p r q even left = elim q [ ]
 
   pub multiply_fits : (L : ℕ) {a b : Row} {xs ys : List Bool} → Fits n ρ a xs → Fits n ρ b ys → length xs ≡ length ys →
       Fits n ρ (multiply n L a b).value (Plain.product xs ys)
@@ -85,6 +87,8 @@ multiply_from_below n L M j le a sum (b ∷ br) a' sum' (b' ∷ br') p r q even 
     let added = add_below n le r (partial_below n j p (below_head q)) same in
     let even' = add_length n L sum (partial n j a b).value same ∙ even in
     multiply_from_below n L M (suc j) le a _ br a' _ br' p added (below_tail q) even' (omega arith)
+multiply_from_below n L M j le a sum [] a' sum' (b' ∷ br') p r q even left = elim q [ ]
+multiply_from_below n L M j le a sum (b ∷ br) a' sum' [] p r q even left = elim q [ ]
 
 pub multiply_below : (n : ℕ) {L M : ℕ} → L ≤ M → {a b a' b' : Row} → Below a a' → Below b b' → length a ≡ length b →
     Below (multiply n L a b).value (multiply n M a' b').value

@@ -121,6 +121,11 @@ chain_fits {n} {ρ} signed z t r (a ∷ ar) (b ∷ br) (x ∷ xs) (y ∷ ys) goo
     rw (← (signed_here_fits signed (fits_tail p)), plain_step here x y r)
     (chain_fits signed z (place n here z t a b) (order_step here x y r) ar br xs ys
     (place_good n here z t a b) side (fits_tail p) (fits_tail q))
+chain_fits {n = n} {ρ = ρ} signed z t r [] b (x ∷ xs) ys good h p q = elim p [ ]
+chain_fits {n = n} {ρ = ρ} signed z t r (a ∷ ar) [] [] ys good h p q = elim p [ ]
+chain_fits {n = n} {ρ = ρ} signed z t r (a ∷ ar) [] (x ∷ xs) (y ∷ ys) good h p q = elim q [ ]
+chain_fits {n = n} {ρ = ρ} signed z t r (a ∷ ar) (b ∷ br) [] ys good h p q = elim p [ ]
+chain_fits {n = n} {ρ = ρ} signed z t r (a ∷ ar) (b ∷ br) (x ∷ xs) [] good h p q = elim q [ ]
 
 -- the known bits of the row that knows no more are known in the other
 below_good_bit : (n : ℕ) {a b : Bit} → BelowBit a b → GoodBit n b → GoodBit n a
@@ -152,6 +157,11 @@ chain_below n signed z ρ t t' (a ∷ ar) (b ∷ br) (a' ∷ ar') (b' ∷ br') g
     (chain_below n signed z ρ (place n here z t a b) (place n here z t' a' b') ar br ar' br'
     (place_good n here z t a b) (place_good n here z t' a' b') good_a.1 good_b.1 side
     (below_tail p) (below_tail q))
+chain_below n signed z ρ t t' [] b (a' ∷ ar') b' good good' good_a good_b h p q = elim p [ ]
+chain_below n signed z ρ t t' (a ∷ ar) [] [] b' good good' good_a good_b h p q = elim p [ ]
+chain_below n signed z ρ t t' (a ∷ ar) [] (a' ∷ ar') (b' ∷ br') good good' good_a good_b h p q = elim q [ ]
+chain_below n signed z ρ t t' (a ∷ ar) (b ∷ br) [] b' good good' good_a good_b h p q = elim p [ ]
+chain_below n signed z ρ t t' (a ∷ ar) (b ∷ br) (a' ∷ ar') [] good good' good_a good_b h p q = elim q [ ]
 
 chain_exact : (n : ℕ) (signed : Bool) (t : Tree) (a b : Row) → sure a ≡ true → sure b ≡ true →
     (chain n signed true t a b).value ≡ (chain n signed false t a b).value
