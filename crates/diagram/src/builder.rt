@@ -39,6 +39,7 @@ fn least(a: usize, b: usize) -> usize
 
 // An empty table, and scratch made ready, whatever stood in both: an eighth of scratch are heads, an eighth links, as far as
 // there are slots; the rest is memo.
+#[tactic(auto, using(crate::proofs::Laws::Begin::ready_empty))]
 pub fn begin(t: &[Cell], w: &mut [u32]) -> Builder
     requires { length t.now ≤ 3145728 }
     ensures { Ready t.now w.new result × ((result.used ≡ 0) × (result.full ≡ false)) }
@@ -55,6 +56,7 @@ pub fn begin(t: &[Cell], w: &mut [u32]) -> Builder
 }
 
 // The slot of a node, or `used` where it isn't there. No slot before `from` holds it.
+#[tactic(auto, using(crate::proofs::Laws::Index::scan_found, crate::proofs::Laws::Index::scan_more, crate::proofs::Laws::Index::scan_end))]
 fn scan(t: &[Cell], from: usize, used: usize, level: u32, low: u32, high: u32) -> usize
     requires { (3 * used ≤ length t.now) × Passed (nodes_of t.now used) from (slot level low high) }
     ensures { result ≡ slot_of (slot level low high) (nodes_of t.now used) }
@@ -70,6 +72,7 @@ fn scan(t: &[Cell], from: usize, used: usize, level: u32, low: u32, high: u32) -
 }
 
 // Slot k, a new one that holds this node, comes into the index, if it is covered.
+#[tactic(auto, using(crate::proofs::Laws::Cover::covering_past, crate::proofs::Laws::Cover::covering_linked))]
 fn cover(w: &mut [u32], covered: usize, k: usize, level: u32, low: u32, high: u32)
     requires { (2 * covered ≤ length w.old) × (covered ≤ 1048576) }
     ensures { w.new ≡ covering w.old covered k (slot level low high) }
@@ -82,6 +85,7 @@ fn cover(w: &mut [u32], covered: usize, k: usize, level: u32, low: u32, high: u3
 
 impl Builder {
     // The slot of a node, or `used` where it isn't there: along the chain of its place, then past the covered slots.
+    #[tactic(auto, using(crate::proofs::Laws::Index::passed_none, crate::proofs::Laws::Index::walk_start, crate::proofs::Laws::Index::walk_next, crate::proofs::Laws::Index::walk_less, crate::proofs::Laws::Index::walk_end, crate::proofs::Laws::Index::walk_slot, crate::proofs::Laws::Index::walk_found, crate::proofs::Laws::Index::walk_miss))]
     fn seek(self, t: &[Cell], w: &[u32], level: u32, low: u32, high: u32) -> usize
         requires { Ready t.now w.now self }
         ensures { result ≡ slot_of (slot level low high) (nodes t.now self) }
@@ -103,6 +107,7 @@ impl Builder {
     }
 
     // A node that isn't there, at the end. Without room the table is full from now on.
+    #[tactic(auto, using(crate::proofs::Laws::Node::node_filled, crate::proofs::Laws::Node::node_added))]
     fn add(self, t: &mut [Cell], w: &mut [u32], level: u32, low: u32, high: u32) -> Made
         requires { Ready t.old w.old self × New t.old self level low high }
         ensures { Joins t.old w.old self level low high t.new w.new result.at result.number }
@@ -135,6 +140,7 @@ impl Builder {
     }
 
     // The number of the node with these parts: found, or added. Equal parts are their own node.
+    #[tactic(auto, using(crate::proofs::Laws::After::gives_full, crate::proofs::Laws::Node::node_same, crate::proofs::Laws::Node::node_found, crate::proofs::Laws::Node::node_new))]
     pub fn node(self, t: &mut [Cell], w: &mut [u32], level: u32, low: u32, high: u32) -> Made
         requires { Alive t.old w.old self × (level < 128) }
         ensures { Joins t.old w.old self level low high t.new w.new result.at result.number }
@@ -203,6 +209,7 @@ impl Builder {
     }
 
     // Keeps a result in the memo, if there is room for one and the table isn't full.
+    #[tactic(auto, using(crate::proofs::Laws::Cells::noted_full, crate::proofs::Laws::Cells::noted_none, crate::proofs::Laws::Cells::noted_kept))]
     fn remember(self, w: &mut [u32], op: u32, a: u32, b: u32, c: u32, r: u32)
         requires { self.full ≡ false → (2 * self.covered + 5 * self.memo ≤ length w.old) × ((self.covered ≤ 1048576) × ((self.memo ≤ 16777216) × (op < 512))) }
         ensures { w.new ≡ noted w.old self op a b c r }

@@ -6,6 +6,7 @@ use crate::table::Cell;
 use crate::{scratch, table};
 
 // Is slot k marked?
+#[tactic(auto, unfolding(crate::specs::Count::marked_at))]
 fn marked(marks: &[u32], k: usize) -> bool
     requires { k < 32 * length marks.now }
     ensures { result ≡ marked_at marks.now k }
@@ -14,6 +15,7 @@ fn marked(marks: &[u32], k: usize) -> bool
 }
 
 // Marks slot k.
+#[tactic(auto, using(crate::proofs::Laws::Mark::mark_set))]
 fn mark(marks: &mut [u32], k: usize)
     requires { k < 32 * length marks.old }
     ensures { marks.new ≡ marking marks.old k }
@@ -22,6 +24,7 @@ fn mark(marks: &mut [u32], k: usize)
 }
 
 // Nothing is counted yet: no slot below `room` is marked.
+#[tactic(auto, using(crate::proofs::Laws::Mark::cleared))]
 pub fn begin(marks: &mut [u32], room: usize)
     requires { (room ≤ 1048576) × (room ≤ 32 * length marks.old) }
     ensures { Unmarked room marks.new }

@@ -2,7 +2,7 @@
 -- node that isn't marked is counted after its parts (counted_node).
 use Prim.Native.Nat.{ℕ, suc, ◌+◌, ◌-◌, ◌*◌, ◌≤◌, ◌<◌}
 use native.Mathlib.Omega.{arith}
-use mathlib.Core.Path.{◌≡◌, refl, sym, ap, ◌∙◌}
+use mathlib.Core.Path.{subst, ◌≡◌, refl, sym, ap, ◌∙◌}
 use mathlib.Core.Logic.{◌≢◌}
 use mathlib.Core.Bool.{Bool, true, false, false≢true}
 use mathlib.Core.List.{List, [], ◌∷◌}
@@ -138,7 +138,7 @@ module _ {room : ℕ} {T : Table} {marks : List ℕ} {so_far : ℕ} {C : Table} 
   enter_more = go (insert_cases x high.table)
     where
       go : Inserted x high.table → length (insert x high.table) ≡ length high.table + 1
-      go (old inside same) = absurd (not_there i d e high.table fresh_parts _ (rw same at whole))
+      go (old inside same) = absurd (not_there i d e high.table fresh_parts _ (subst (λ (s : List Node). Is s (slot_of x high.table + 2) (node i d e)) same whole))
       go (new end more) = rw (more, length-append high.table (x ∷ []))
 
   -- counted with its parts and marked, it is counted

@@ -3,6 +3,7 @@
 --   every p n      p passes at each number below n
 --   rows p         p passes at each row
 --   same_equal     a table rewritten for two equal numbers asks the same of the operands
+--   false_a ..     the nine rewritings of `shorten`
 --   shorter        so it does with 0 for each operand that it does not look at
 --   answer-..      what `shortcut` answers
 use Prim.Native.Nat.{ℕ, zero, suc, ◌+◌, ◌*◌, ◌/◌, ◌%◌, ◌^◌, ◌≤◌, ◌<◌}
@@ -155,6 +156,45 @@ same_equal s t low high d {q} {g} {r} {x} {y} is_x is_y before made passed = go 
           same = λ v k. p.1 _ _ _ (sym (is_x.is v k) ∙ ap v (eqb-true x y e) ∙ is_y.is v k) ∙ before.same v k;
         }
     go false e = let is : r ≡ g = rw e at made in rw is before
+
+-- each of `shorten`'s nine rewritings: an operand that is 0, one that is 1, two that are equal
+
+module _ {q : Asked} {g r : ℕ} (before : Same q g) where
+  pub false_a : r ≡ equal_of g q.a 0 15 0 16 → Same q r
+  unfolding rewritten table_of paired
+  false_a made = same_equal first never 15 0 16 is_a is_0 before made refl
+
+  pub true_a : r ≡ equal_of g q.a 1 0 240 16 → Same q r
+  unfolding rewritten table_of paired
+  true_a made = same_equal first always 0 240 16 is_a is_1 before made refl
+
+  pub false_b : r ≡ equal_of g q.b 0 51 0 4 → Same q r
+  unfolding rewritten table_of paired
+  false_b made = same_equal second never 51 0 4 is_b is_0 before made refl
+
+  pub true_b : r ≡ equal_of g q.b 1 0 204 4 → Same q r
+  unfolding rewritten table_of paired
+  true_b made = same_equal second always 0 204 4 is_b is_1 before made refl
+
+  pub false_c : r ≡ equal_of g q.c 0 85 0 2 → Same q r
+  unfolding rewritten table_of paired
+  false_c made = same_equal third never 85 0 2 is_c is_0 before made refl
+
+  pub true_c : r ≡ equal_of g q.c 1 0 170 2 → Same q r
+  unfolding rewritten table_of paired
+  true_c made = same_equal third always 0 170 2 is_c is_1 before made refl
+
+  pub equal_ab : r ≡ equal_of g q.a q.b 3 192 4 → Same q r
+  unfolding rewritten table_of paired
+  equal_ab made = same_equal first second 3 192 4 is_a is_b before made refl
+
+  pub equal_ac : r ≡ equal_of g q.a q.c 5 160 2 → Same q r
+  unfolding rewritten table_of paired
+  equal_ac made = same_equal first third 5 160 2 is_a is_c before made refl
+
+  pub equal_bc : r ≡ equal_of g q.b q.c 17 136 2 → Same q r
+  unfolding rewritten table_of paired
+  equal_bc made = same_equal second third 17 136 2 is_b is_c before made refl
 
 -- ---- an operand that the function doesn't look at
 

@@ -15,7 +15,7 @@ use Rattle.meaning.proofs.Laws.Apply.{top_level, step_function}
 use Rattle.meaning.proofs.Laws.Apply.{quantify_ok, quantify_above, quantify_here, quantify_split}
 use Rattle.diagram.specs.Function.{table_of}
 use Rattle.diagram.specs.Scratch.{operation, Recalled}
-use Rattle.diagram.specs.State.{Ready, Means, After, Gives, Joins, top_of, part_of, noted, chooser}
+use Rattle.diagram.specs.State.{Alive, Ready, Known, Means, After, Gives, Joins, top_of, part_of, noted, chooser}
 use Rattle.diagram.specs.declared.builder.Builder.{Builder}
 use Rattle.diagram.proofs.Laws.After.{after_nothing, after_means, gives_there}
 use Rattle.diagram.proofs.Laws.Parts.{tree_stands, tree_one, tree_good, tree_top, tree_ok, tree_part, part_falls}
@@ -124,6 +124,11 @@ pub record Looks (cells w : List ℕ) (b : Builder) (every : Bool) (l n i : ℕ)
   pub small : l < 128
   pub top : i ≡ top_of cells n
 
+-- by the contract and what `top` says
+pub looking : {cells w : List ℕ} {b : Builder} (every : Bool) {l n i : ℕ} → b.full ≡ false
+    → Alive cells w b × ((l < 128) × Known b n) → i ≡ top_of cells n → Looks cells w b every l n i
+looking every free pre top = record { free = free; ready = pre.0 free; known = pre.1.1 free; small = pre.1.0; top = top }
+
 module _ {cells w : List ℕ} {b : Builder} {every : Bool} {l n i : ℕ} (looks : Looks cells w b every l n i) where
   -- whatever diagram n stands for
   looks_quantifies : {cells' w' : List ℕ} {b' : Builder} {r : ℕ}
@@ -169,6 +174,11 @@ pub record Halves (cells w : List ℕ) (b : Builder) (every : Bool) (l n i low h
   pub within : i ≤ l
   pub low_is : low ≡ part_of cells false i n
   pub high_is : high ≡ part_of cells true i n
+
+-- by what `low_part` and `high_part` say
+pub halving : {cells w : List ℕ} {b : Builder} {every : Bool} {l n i low high : ℕ} → Looks cells w b every l n i → i ≤ l
+    → low ≡ part_of cells false i n → high ≡ part_of cells true i n → Halves cells w b every l n i low high
+halving looks within low_is high_is = record { looks = looks; within = within; low_is = low_is; high_is = high_is }
 
 module _ {cells w : List ℕ} {b : Builder} {every : Bool} {l n i low high : ℕ}
     (halves : Halves cells w b every l n i low high) where

@@ -15,7 +15,7 @@ use Rattle.meaning.proofs.Laws.Diagram.{part_ok, step_good, step_holds}
 use Rattle.meaning.proofs.Laws.Apply.{step_is, step_ok, step_split}
 use Rattle.diagram.specs.Function.{table_of, evaluate, Terminal, Shorter, Answers}
 use Rattle.diagram.specs.Scratch.{operation, Recalled}
-use Rattle.diagram.specs.State.{Ready, Known, Means, Stands, After, Gives, Joins, nodes, part_of, parts_of, noted}
+use Rattle.diagram.specs.State.{Alive, Ready, Known, Means, Stands, After, Gives, Joins, nodes, part_of, parts_of, noted}
 use Rattle.diagram.specs.declared.builder.Builder.{Builder}
 use Rattle.diagram.specs.declared.function.Asked.{Asked}
 use Rattle.diagram.specs.declared.function.Quick.{Quick}
@@ -203,6 +203,18 @@ pub record Asks (cells w : List ℕ) (b : Builder) (q r : Asked) : Type 0 where
   pub known : Knows b q
   pub short : Shorter q r
 
+-- what the call asks, by its contract and what `shorten` says
+pub asking : {cells w : List ℕ} {b : Builder} (q : Asked) {r : Asked} → b.full ≡ false
+    → Alive cells w b × ((q.f < 256) × (Known b q.a × (Known b q.b × Known b q.c))) → Shorter q r → Asks cells w b q r
+asking q free pre short =
+    let known = pre.1.1 in
+    record {
+      free = free;
+      ready = pre.0 free;
+      known = record { known_a = known.0 free; known_b = known.1.0 free; known_c = known.1.1 free };
+      short = short;
+    }
+
 module _ {cells w : List ℕ} {b : Builder} {q r : Asked} (asks : Asks cells w b q r) where
   pub asks_knows : Knows b r
   asks_knows = knows_shorter asks.short asks.known
@@ -230,6 +242,11 @@ pub record Splits (cells w : List ℕ) (b : Builder) (q r : Asked) (p : Parts) :
   pub asks : Asks cells w b q r
   pub parts : p ≡ parts_of cells r.a r.b r.c
   pub some : (2 ≤ r.a) ⊎ ((2 ≤ r.b) ⊎ (2 ≤ r.c))
+
+-- by what `shortcut` and `parted` say
+pub splitting : {cells w : List ℕ} {b : Builder} {q r : Asked} {k : Quick} {p : Parts} → Asks cells w b q r → Answers r k
+    → k.done ≡ false → p ≡ parts_of cells r.a r.b r.c → Splits cells w b q r p
+splitting asks answers none parts = record { asks = asks; parts = parts; some = answers.left none }
 
 -- the diagram of one part
 abbrev pub part_tree : List ℕ → Bool → Asked → Tree

@@ -91,6 +91,12 @@ pub record Opened (cells marks : List ℕ) (n k low high : ℕ) : Type 0 where
   pub is_low : low ≡ low_of (node_at cells k)
   pub is_high : high ≡ high_of (node_at cells k)
 
+-- as `visit` finds it out, by what its callees say
+pub opens : {cells marks : List ℕ} {n k low high : ℕ} {set : Bool} → 2 ≤ n → k ≡ n - 2 → set ≡ marked_at marks k → set ≡ false →
+    low ≡ low_of (node_at cells k) → high ≡ high_of (node_at cells k) → Opened cells marks n k low high
+opens big place is clear is_low is_high =
+    record { big = big; place = place; clear = sym is ∙ clear; is_low = is_low; is_high = is_high }
+
 -- the slot of a used number
 used_slot : (cells : List ℕ) (used n : ℕ) → 2 ≤ n → n < length (nodes_of cells used) + 2
     → slot_at (nodes_of cells used) n ≡ node_at cells (n - 2)
