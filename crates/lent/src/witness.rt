@@ -25,6 +25,7 @@ struct Choice {
 }
 
 // At level l: 0, unless nothing is accepted then.
+#[tactic(auto, using(crate::proofs::Laws::Witness::choice_high, crate::proofs::Laws::Witness::choice_low))]
 fn choose(t: &[Cell], l: u32, n: u32) -> Choice
     requires { Readable t.now n }
     ensures { result ≡ choice_at t.now l n }
@@ -40,6 +41,7 @@ fn choose(t: &[Cell], l: u32, n: u32) -> Choice
 }
 
 // Level by level, a byte each.
+#[tactic(auto, using(crate::proofs::Laws::Followed::followed_inside, crate::proofs::Laws::Witness::filled_start, crate::proofs::Laws::Witness::filled_next, crate::proofs::Laws::Witness::filled_done))]
 fn fill(t: &[Cell], n: u32, a: &mut [u8])
     requires { Followed t.now n × (length a.old ≡ 128) }
     ensures { a.new ≡ map digit (least 128 0 (tree_of t.now n)) }
@@ -55,6 +57,7 @@ fn fill(t: &[Cell], n: u32, a: &mut [u8])
 }
 
 // The least assignment that diagram n accepts, into a; or the first cause met of 9, 13, 12, 16, 15, and a is untouched.
+#[tactic(auto, using(crate::proofs::Laws::Refusal::buffers_fit, crate::proofs::Laws::Followed::diagram_followed, crate::proofs::Laws::Witness::witness_buffers, crate::proofs::Laws::Witness::witness_diagram, crate::proofs::Laws::Witness::witness_never, crate::proofs::Laws::Witness::witness_answered))]
 pub fn witness(t: &[Cell], used: u32, n: u32, a: &mut [u8]) -> Witnessed
     ensures { Witnesses t.now used n a.old result a.new }
 {
