@@ -1,5 +1,5 @@
 #!/usr/bin/env python3
-"""Writes the sheets of crates/cases/data (also seen as sheets/): bytes, readable text and expected listing of each.
+"""Writes the sheets of sheets/ and, the same, of crates/cases/data: bytes, readable text and expected listing of each.
 
 Each sheet is described once, below. NAME.sheet has its bytes, NAME.txt the same in words, NAME.expected what the
 program prints for it. The expected listing comes from tests/comparison, an implementation of its own, and where a
@@ -384,8 +384,9 @@ def files():
     out, printed = {}, b""
     for sheet in SHEETS:
         listing = expected(sheet)
-        at = f"crates/cases/data/{sheet.name}"
-        out[at + ".sheet"], out[at + ".txt"], out[at + ".expected"] = sheet.bytes(), sheet.text().encode(), listing
+        for folder in ("sheets", "crates/cases/data"):
+            at = f"{folder}/{sheet.name}"
+            out[at + ".sheet"], out[at + ".txt"], out[at + ".expected"] = sheet.bytes(), sheet.text().encode(), listing
         printed += sheet.name.encode() + b".sheet\n" + listing
     out["crates/cases/stdout"] = printed
     out["crates/prove/stdin"] = out["crates/cases/data/sheet_a.sheet"]

@@ -39,7 +39,6 @@ fn least(a: usize, b: usize) -> usize
 
 // An empty table, and scratch made ready, whatever stood in both: an eighth of scratch are heads, an eighth links, as far as
 // there are slots; the rest is memo.
-#[tactic(auto, using(crate::proofs::Laws::Begin::ready_empty))]
 pub fn begin(t: &[Cell], w: &mut [u32]) -> Builder
     requires { length t.now ≤ 3145728 }
     ensures { Ready t.now w.new result × ((result.used ≡ 0) × (result.full ≡ false)) }
@@ -85,7 +84,6 @@ fn cover(w: &mut [u32], covered: usize, k: usize, level: u32, low: u32, high: u3
 
 impl Builder {
     // The slot of a node, or `used` where it isn't there: along the chain of its place, then past the covered slots.
-    #[tactic(auto, using(crate::proofs::Laws::Index::passed_none, crate::proofs::Laws::Index::walk_start, crate::proofs::Laws::Index::walk_next, crate::proofs::Laws::Index::walk_less, crate::proofs::Laws::Index::walk_end, crate::proofs::Laws::Index::walk_slot, crate::proofs::Laws::Index::walk_found, crate::proofs::Laws::Index::walk_miss))]
     fn seek(self, t: &[Cell], w: &[u32], level: u32, low: u32, high: u32) -> usize
         requires { Ready t.now w.now self }
         ensures { result ≡ slot_of (slot level low high) (nodes t.now self) }
@@ -107,7 +105,6 @@ impl Builder {
     }
 
     // A node that isn't there, at the end. Without room the table is full from now on.
-    #[tactic(auto, using(crate::proofs::Laws::Node::node_filled, crate::proofs::Laws::Node::node_added))]
     fn add(self, t: &mut [Cell], w: &mut [u32], level: u32, low: u32, high: u32) -> Made
         requires { Ready t.old w.old self × New t.old self level low high }
         ensures { Joins t.old w.old self level low high t.new w.new result.at result.number }
@@ -140,7 +137,6 @@ impl Builder {
     }
 
     // The number of the node with these parts: found, or added. Equal parts are their own node.
-    #[tactic(auto, using(crate::proofs::Laws::After::gives_full, crate::proofs::Laws::Node::node_same, crate::proofs::Laws::Node::node_found, crate::proofs::Laws::Node::node_new))]
     pub fn node(self, t: &mut [Cell], w: &mut [u32], level: u32, low: u32, high: u32) -> Made
         requires { Alive t.old w.old self × (level < 128) }
         ensures { Joins t.old w.old self level low high t.new w.new result.at result.number }

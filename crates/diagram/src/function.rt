@@ -37,7 +37,7 @@ pub struct Quick {
 
 // Where x and y are one number the function looks at only one of them. Rows lie in pairs, a row where the other operand is 0
 // and, s rows up, the row where it is 1; d is 2^s. Of each pair the row that `low` or `high` names goes to both.
-#[tactic(auto, using(crate::proofs::Laws::Function::taken_lt, crate::proofs::Laws::Function::paired_lt), unfolding(crate::specs::Function::equal_of, crate::specs::Function::paired))]
+#[tactic(auto, using(crate::proofs::Laws::Function::paired_lt), unfolding(crate::specs::Function::equal_of, crate::specs::Function::paired))]
 fn equal(f: u32, x: u32, y: u32, low: u32, high: u32, d: u32) -> u32
     requires { (f < 256) × ((0 < d) × (d ≤ 16)) }
     ensures { result ≡ equal_of f x y low high d }
@@ -83,7 +83,7 @@ pub fn shorten(q: Asked) -> Asked
 }
 
 // A constant, one of the operands, or a row of the table where all operands are terminals.
-#[tactic(auto, using(crate::proofs::Laws::Function::answer_pick, crate::proofs::Laws::Function::answer_row, crate::proofs::Laws::Function::no_answer, crate::proofs::Laws::Function::first, crate::proofs::Laws::Function::second, crate::proofs::Laws::Function::third, crate::proofs::Laws::Function::never, crate::proofs::Laws::Function::always, crate::proofs::Laws::Function::is_a, crate::proofs::Laws::Function::is_b, crate::proofs::Laws::Function::is_c, crate::proofs::Laws::Function::is_0, crate::proofs::Laws::Function::is_1), unfolding(crate::specs::Function::table_of))]
+#[tactic(auto, using(crate::proofs::Laws::Function::answer_row))]
 pub fn shortcut(q: Asked) -> Quick
     requires { q.f < 256 }
     ensures { Answers q result }

@@ -3,7 +3,7 @@ ghost use Rattle.std.specs.Prelude.{◌≡◌, ◌<◌, ◌≤◌};
 ghost use Rattle.diagram.specs.Hash.{place_of};
 
 // The place of four numbers among `size`. The four factors add up to less than 2^32, so no sum wraps.
-#[tactic(auto, using(crate::proofs::Laws::Hash::spread_fits, crate::proofs::Laws::Hash::spread_lt), unfolding(crate::specs::Hash::place_of))]
+#[tactic(auto, unfolding(crate::specs::Hash::place_of))]
 pub fn place(size: usize, a: u32, b: u32, c: u32, d: u32) -> usize
     requires { (0 < size) × (size ≤ 16777216) }
     ensures { (result ≡ place_of size a b c d) × (result < size) }

@@ -47,7 +47,6 @@ fn entry_at(w: &[u32], at: usize) -> Entry
 }
 
 // The remembered result, if there is one.
-#[tactic(auto, using(crate::proofs::Laws::Cells::recalled))]
 pub fn recall(w: &[u32], covered: usize, memo: usize, op: u32, a: u32, b: u32, c: u32) -> Quick
     requires { (2 * covered + 5 * memo ≤ length w.now) × ((covered ≤ 1048576) × ((memo ≤ 16777216) × (op < 512))) }
     ensures { result.done ≡ true → Recalled w.now covered memo op a b c result.number }
@@ -92,7 +91,6 @@ pub fn remember(w: &mut [u32], covered: usize, memo: usize, op: u32, a: u32, b: 
 }
 
 // All zeros.
-#[tactic(auto, using(crate::proofs::Laws::Cells::zeros_start, crate::proofs::Laws::Cells::zeros_more, crate::proofs::Laws::Cells::zeros_all))]
 pub fn clear(w: &mut [u32])
     ensures { w.new ≡ replicate (length w.old) 0 }
 {

@@ -1,4 +1,4 @@
-// The functions exported to Rust and C: the enums of solve, value and witness, flattened into numbers.
+// What is exported to Rust and C (by `link_c`): the enums of solve, value and witness, flattened into numbers.
 #![tactic(auto)]
 
 ghost use Rattle.std.specs.Prelude.{◌≡◌, length};
@@ -95,8 +95,7 @@ fn flat_witness(w: Witnessed) -> u32
 }
 
 // Solve a sheet at a limit.
-#[unsafe(no_mangle)]
-pub extern "C" fn rule_solve(
+pub fn rule_solve(
     sheet: &[u8],
     limit: u32,
     table: &mut [Cell],
@@ -109,8 +108,7 @@ pub extern "C" fn rule_solve(
 }
 
 // Solve a sheet without a named limit.
-#[unsafe(no_mangle)]
-pub extern "C" fn rule_solve_unnamed(sheet: &[u8], table: &mut [Cell], work: &mut [u32]) -> Solved
+pub fn rule_solve_unnamed(sheet: &[u8], table: &mut [Cell], work: &mut [u32]) -> Solved
     ensures { Solves (Solve.solve_unnamed sheet.now (length table.old) (length work.old)) result
         table.old work.old table.new work.new }
 {
@@ -118,16 +116,14 @@ pub extern "C" fn rule_solve_unnamed(sheet: &[u8], table: &mut [Cell], work: &mu
 }
 
 // The value of a diagram under an assignment, one byte a level.
-#[unsafe(no_mangle)]
-pub extern "C" fn rule_value(table: &[Cell], used: u32, diagram: u32, assignment: &[u8]) -> Valued
+pub fn rule_value(table: &[Cell], used: u32, diagram: u32, assignment: &[u8]) -> Valued
     ensures { value_in result ≡ Value.value table.now used diagram assignment.now }
 {
     flat_value(value::value(table, used, diagram, assignment))
 }
 
 // The first assignment that a diagram accepts, one byte a level.
-#[unsafe(no_mangle)]
-pub extern "C" fn rule_witness(
+pub fn rule_witness(
     table: &[Cell],
     used: u32,
     diagram: u32,

@@ -28,7 +28,7 @@ fn printed(input: &[u8]) -> Option<Vec<u8>> {
 
 pub fn run(c: &mut Compare, sheets: usize) {
     if !std::path::Path::new(PROGRAM).is_file() {
-        return c.check(|| format!("{PROGRAM} is missing: `rt check` builds it"), false);
+        return c.check(|| format!("{PROGRAM} is missing: `./build` builds it"), false);
     }
     let a = sheet_a();
     let mut inputs = vec![a.clone(), written(f3(4)), written(f3(5)), many_bits(0), many_bits(1)];

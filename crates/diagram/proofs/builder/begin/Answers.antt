@@ -6,7 +6,7 @@ use Rattle.diagram.proofs.builder.begin.Goals as goal
 
 pub returns : goal.returns
 returns c = (
-      ready_empty _ _ (length c.args.w.now) _ _ _ c.clear.ensures c.requires
-          c.slots.ensures c.least-covered.ensures c.least-memo.ensures,
-      (refl, refl),
-    )
+  ready_empty _ _ (length c.args.w.now) _ _ _ c.clear.ensures c.requires
+      c.slots.ensures c.least-covered.ensures c.least-memo.ensures,
+  (refl, refl),
+)

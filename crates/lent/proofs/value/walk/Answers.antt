@@ -8,11 +8,11 @@ loop-at-init c = way_start c.args.t.now c.args.n c.args.a.now c.requires.0
 
 pub loop-at-preserved : goal.loop-at-preserved
 loop-at-preserved c = way_next c.loop-at.invariant ((record {
-      big = c.loop-at-test.true;
-      place = c.slot_of-k.ensures;
-      here = c.level-level.ensures;
-      chosen = c.chosen-at.ensures;
-    }))
+  big = c.loop-at-test.true;
+  place = c.slot_of-k.ensures;
+  here = c.level-level.ensures;
+  chosen = c.chosen-at.ensures;
+}))
 
 pub returns : goal.returns
 returns c = way_done c.loop-at.invariant c.loop-at-test.false

@@ -20,9 +20,9 @@ returns-then-n-eq0 c = witness_never _ _ _ _ c.buffers_refusal-buffers.ensures c
 
 pub fill-requires : goal.fill-requires
 fill-requires c = (
-      diagram_followed _ _ _ c.diagram_refusal-diagram.ensures c.if-diagram-ne0.false,
-      (buffers_fit _ _ c.buffers_refusal-buffers.ensures c.if-buffers-ne0.false).1,
-    )
+  diagram_followed _ _ _ c.diagram_refusal-diagram.ensures c.if-diagram-ne0.false,
+  (buffers_fit _ _ c.buffers_refusal-buffers.ensures c.if-buffers-ne0.false).1,
+)
 
 pub returns : goal.returns
 returns c = witness_answered _ _ _ c.args.a.now c.buffers_refusal-buffers.ensures c.if-buffers-ne0.false
