@@ -5,7 +5,7 @@
 --
 --   Indexed T w covered          each covered slot of T is in the chain of its place
 --   Remembers T w covered memo   each remembered result is the step's
-use Rattle.std.specs.Prelude.{ℕ, suc, ◌+◌, ◌-◌, ◌*◌, ◌≤◌, ◌<◌, ◌≡◌, false, cond, ◌&&◌, ◌||◌, List, [], ◌∷◌, ltb, length, get_or, set}
+use Rattle.std.specs.Prelude.{ℕ, suc, ◌+◌, ◌-◌, ◌*◌, ◌≤◌, ◌<◌, ◌≡◌, false, cond, ◌&&◌, ◌||◌, List, ltb, length, get_or, set}
 use Rattle.meaning.specs.Diagram.{Tree}
 use Rattle.meaning.specs.Table.{Node, slot, Table, alike}
 use Rattle.meaning.specs.Step.{step_tree, quantify_tree}

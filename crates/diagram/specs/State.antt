@@ -4,7 +4,7 @@
 --   Ready                table and scratch are right for this state
 --   Means                a number stands for a diagram; asked only while there is room
 --   After                these steps and no others lie between two states
-use Rattle.std.specs.Prelude.{ℕ, zero, suc, ◌+◌, ◌-◌, ◌*◌, ◌/◌, ◌≤◌, ◌<◌, min, ◌≡◌, ◌≢◌, Bool, true, false, cond, ◌&&◌, ◌||◌, List, [], ◌∷◌, ltb, eqb, length, set}
+use Rattle.std.specs.Prelude.{ℕ, ◌+◌, ◌-◌, ◌*◌, ◌/◌, ◌≤◌, ◌<◌, min, ◌≡◌, ◌≢◌, Bool, true, false, cond, ◌&&◌, ◌||◌, List, [], ◌∷◌, ltb, eqb, length, set}
 use Rattle.meaning.specs.Number.{up_to}
 use Rattle.meaning.specs.Diagram.{Tree, mk}
 use Rattle.meaning.specs.Table.{slot, Table, slot_of, enter_all}

@@ -2,7 +2,7 @@
 use Prim.Native.Nat.{ℕ, ◌*◌, ◌%◌, ◌≤◌, ◌<◌}
 use native.Mathlib.Nat.{mul-le-mul_right, mul-lt-mul_of_pos_right, div-lt_iff_lt-mul}
 use native.Mathlib.Omega.{arith}
-use Rattle.diagram.specs.Hash.{mixed, spread, place_of}
+use Rattle.diagram.specs.Hash.{spread, place_of}
 
 -- a mixed number times as many places fits 64 bits
 pub spread_fits : (sum size : ℕ) → size ≤ 16777216 → sum % 4294967296 * size < 18446744073709551616

@@ -8,7 +8,7 @@ use mathlib.Core.List.{List, [], ◌∷◌}
 use lib.Dec.{ltb, eqb}
 use lib.ListN.{length, get_or}
 use borrow.Author.Tests.{ltb-true, ltb-false, eqb-true, eqb-false}
-use Rattle.meaning.specs.Table.{Node, slot, Table, alike, slot_of}
+use Rattle.meaning.specs.Table.{Node, Table, alike, slot_of}
 use Rattle.meaning.specs.Lent.{node_at}
 use Rattle.meaning.proofs.Laws.Table.{none, Single, alike_eq}
 use Rattle.diagram.specs.State.{Inside, nodes_of}

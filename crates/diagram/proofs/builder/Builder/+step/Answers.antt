@@ -3,7 +3,7 @@ use Rattle.std.proofs.Common.{arith, true, false}
 use Rattle.diagram.specs.declared.function.Asked.{Asked}
 use Rattle.diagram.proofs.Laws.Memo.{memo_fits}
 use Rattle.diagram.proofs.Laws.Step.{asking, quick_steps, recalled_steps, splitting}
-use Rattle.diagram.proofs.Laws.Step.{side, part_knows, part_size, level_below, knows_later}
+use Rattle.diagram.proofs.Laws.Step.{part_knows, part_size, level_below, knows_later}
 use Rattle.diagram.proofs.Laws.Step.{low_gives, high_gives, step_gives, noted_steps}
 use Rattle.diagram.proofs.builder.Builder.+step.Goals as goal
 

@@ -1,6 +1,5 @@
 -- `Builder::seek` meets its contract. The invariant: `at` names a slot of the node's chain, or none, and no covered slot
 -- from there on holds the node. The measure is `at`: a chain runs to ever lower slots.
-use Prim.Native.Nat.{◌-◌}
 use Rattle.meaning.specs.Table.{slot}
 use Rattle.diagram.specs.State.{nodes_of}
 use Rattle.diagram.proofs.Laws.Index.{Walks}
