@@ -3,7 +3,7 @@
 --   BitIs     a number stands for a bit: a diagram's number, or the unknown mark
 --   RowMeans  a row of numbers stands for a row of bits; the bits are asked only while there is room
 --   RowKnown  each number is the unknown mark, a terminal or a used node's
-use Rattle.std.specs.Prelude.{ℕ, zero, suc, ◌+◌, ◌≤◌, ◌<◌, ◌≡◌, ◌⊎◌, Bool, true, false, List, [], ◌∷◌}
+use Rattle.std.specs.Prelude.{ℕ, ◌+◌, ◌≤◌, ◌<◌, ◌≡◌, ◌⊎◌, false, List}
 use lib.ListN.{length, get_or}
 use Rattle.meaning.specs.Table.{Table}
 use Rattle.meaning.specs.Row

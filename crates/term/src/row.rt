@@ -32,6 +32,7 @@ pub fn filled(width: usize, number: u32) -> Row
 }
 
 // `into`, with `count` places of `of` from `from` on put at `at`.
+#[tactic(auto, using(crate::proofs::Laws::Places::put_start, crate::proofs::Laws::Places::put_done))]
 pub fn placed(into: Row, at: usize, of: Row, from: usize, count: usize) -> Row
     requires { (into.width ≤ 32) × ((of.width ≤ 32) × ((at + count ≤ into.width) × (from + count ≤ of.width))) }
     ensures { (result.width ≡ into.width) × (places result ≡ paste (places into) at (drop from (places of)) count) }
@@ -47,6 +48,7 @@ pub fn placed(into: Row, at: usize, of: Row, from: usize, count: usize) -> Row
 }
 
 // A constant's bits are terminals.
+#[tactic(auto, using(crate::proofs::Laws::Places::digits_start, crate::proofs::Laws::Places::digits_done))]
 pub fn constant(width: usize, value: u32) -> Row
     requires { width ≤ 32 }
     ensures { (result.width ≡ width) × (places result ≡ map digit (bits width value)) }
@@ -63,6 +65,7 @@ pub fn constant(width: usize, value: u32) -> Row
 }
 
 // Up by k places; the places below are false.
+#[tactic(auto, using(crate::proofs::Laws::Places::moved_up))]
 pub fn shift_left(k: usize, a: Row) -> Row
     requires { (a.width ≤ 32) × (k ≤ a.width) }
     ensures { (result.width ≡ a.width) × (places result ≡ replicate k 0 ++ take (a.width - k) (places a)) }
@@ -72,6 +75,7 @@ pub fn shift_left(k: usize, a: Row) -> Row
 }
 
 // Down by k places; the places above are false.
+#[tactic(auto, using(crate::proofs::Laws::Places::moved_down))]
 pub fn shift_right(k: usize, a: Row) -> Row
     requires { (a.width ≤ 32) × (k ≤ a.width) }
     ensures { (result.width ≡ a.width) × (places result ≡ drop k (places a) ++ replicate k 0) }
@@ -81,6 +85,7 @@ pub fn shift_right(k: usize, a: Row) -> Row
 }
 
 // The first operand is the high part.
+#[tactic(auto, using(crate::proofs::Laws::Places::joined))]
 pub fn concat(a: Row, b: Row) -> Row
     requires { a.width + b.width ≤ 32 }
     ensures { (result.width ≡ a.width + b.width) × (places result ≡ places b ++ places a) }
@@ -100,6 +105,7 @@ pub fn low_part(a: Row, count: usize) -> Row
 }
 
 // Places l to u.
+#[tactic(auto, using(crate::proofs::Laws::Places::cut_out))]
 pub fn extract(u: usize, l: usize, a: Row) -> Row
     requires { (a.width ≤ 32) × ((l ≤ u) × (u < a.width)) }
     ensures { (result.width ≡ u - l + 1) × (places result ≡ take (u - l + 1) (drop l (places a))) }
@@ -109,6 +115,7 @@ pub fn extract(u: usize, l: usize, a: Row) -> Row
 }
 
 // The new places on top are all `number`: false, or the top bit with its mark.
+#[tactic(auto, using(crate::proofs::Laws::Places::topped))]
 fn extended(width: usize, a: Row, number: u32) -> Row
     requires { (width ≤ 32) × (a.width ≤ width) }
     ensures { (result.width ≡ width) × (places result ≡ places a ++ replicate (width - a.width) number) }

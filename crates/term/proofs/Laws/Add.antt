@@ -13,7 +13,6 @@ use lib.ListN.{length, get_or, drop, length-append, length-drop, drop_of_length-
 use lib.Seq.{drop-cons}
 use borrow.Author.Tests.{eqb-true, eqb-false, eq-eqb, ne_eqb, ltb-true, ltb-false}
 use Rattle.meaning.specs.Diagram.{Tree, leaf}
-use Rattle.meaning.specs.Table.{count}
 use Rattle.meaning.specs.Step.{unused}
 use Rattle.meaning.specs.Row
 use Rattle.meaning.specs.Row.{Bit, known, unknown, unknowns, add_from}

@@ -2,10 +2,10 @@
 --
 -- Main results: means_each and each_means, between RowMeans and lists that are related place by place; and a law
 -- `OPERATION-means` for each operation, from its operands' RowMeans and what the function ensures.
-use Prim.Native.Nat.{ℕ, zero, suc, ◌+◌, ◌-◌, ◌≤◌, ◌<◌, min}
+use Prim.Native.Nat.{ℕ, zero, suc, ◌+◌, ◌-◌, ◌≤◌, ◌<◌}
 use native.Mathlib.Omega.{arith}
 use mathlib.Core.Path.{◌≡◌, refl, sym, ap, ◌∙◌}
-use mathlib.Core.Bool.{Bool, true, false}
+use mathlib.Core.Bool.{Bool, false}
 use mathlib.Core.List.{List, [], ◌∷◌, ◌++◌, map}
 use lib.ListN.{length, take, drop, get_or, replicate}
 use lib.ListN.{length-append, length-take, length-drop, length-replicate, length-map}

@@ -88,6 +88,13 @@ pub record Parted (x : Declared.Row) (j y : ℕ) (low many : Declared.Row) : Typ
   pub is_low : Holds low (x.width - j) (take (x.width - j) (places x))
   pub is_many : Holds many (x.width - j) (replicate (x.width - j) y)
 
+-- from what low_part and filled promise
+pub parting : {x : Declared.Row} {j y : ℕ} {low many : Declared.Row} → j ≤ x.width → Whole x
+    → Holds low (x.width - j) (take (x.width - j) (places x)) → Holds many (x.width - j) (replicate (x.width - j) y)
+    → Parted x j y low many
+parting inside whole is_low is_many =
+    record { inside = inside; whole = whole; is_low = is_low; is_many = is_many }
+
 module _ {x : Declared.Row} {j y : ℕ} {low many : Declared.Row} (parted : Parted x j y low many) where
   abbrev left : Row.Row → Row.Row
   left r = take (x.width - j) r

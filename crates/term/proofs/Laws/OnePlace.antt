@@ -29,7 +29,6 @@ use Rattle.term.specs.Add.{sum_step, SumMade, Sums, Carries, NumbersMean, Counta
 use Rattle.term.specs.Add.{Tallies, Tallying, GoesOn, Placed, cut_at}
 use Rattle.term.specs.declared.add.Sum.{Sum}
 use Rattle.term.specs.declared.add.Tally.{Tally}
-use Rattle.term.specs.declared.row.Row as Declared
 use Rattle.term.proofs.Laws.Rows.{is_used, not_mark}
 use Rattle.term.proofs.Laws.Sum.{known_means, means_known, means_after}
 use Rattle.term.proofs.Laws.Count.{tallies_after, tallies_more}

@@ -19,7 +19,6 @@ use Rattle.diagram.proofs.Laws.Parts.{tree_stands}
 use Rattle.diagram.proofs.Laws.Step.{Steps}
 use Rattle.term.specs.Bit.{BitMeans, BitMade}
 use Rattle.term.specs.Add.{as_bit, SumMade}
-use Rattle.term.specs.declared.row.Row as Declared
 use Rattle.term.proofs.Laws.Levels.{Tabled, table_function, and_table, or_table, xor_table}
 use Rattle.term.proofs.Laws.Rows.{is_used, after_bit}
 use Rattle.term.proofs.Laws.Bit.{stepped}

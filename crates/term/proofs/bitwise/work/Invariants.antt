@@ -1,0 +1,11 @@
+-- `bitwise::work` meets its contract. The loop's invariant: the first i places were worked on, whatever bits and condition
+-- the numbers stand for.
+use Prim.Native.Nat.{◌-◌}
+use Rattle.term.proofs.Laws.Bitwise.{Going}
+use Rattle.term.proofs.bitwise.work.Given as goal
+
+abbrev pub invariant-loop-i : goal.invariant-loop-i
+invariant-loop-i l = Going l.op l.x l.y l.initial.t l.initial.w l.initial.at l.i l.t l.w l.at l.bits
+
+abbrev pub decreases-loop-i : goal.decreases-loop-i
+decreases-loop-i l = l.width - l.i

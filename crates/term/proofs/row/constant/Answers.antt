@@ -1,0 +1,6 @@
+-- `row::constant` meets its contract. The invariant: the digits placed and those of the rest are the constant's.
+use Rattle.term.proofs.Laws.Places.{digits_next}
+use Rattle.term.proofs.row.constant.Goals as goal
+
+pub loop-i-preserved : goal.loop-i-preserved
+loop-i-preserved c = digits_next _ _ _ _ _ c.requires c.loop-i.invariant c.loop-i-test.true
