@@ -46,6 +46,7 @@ impl Checked {
 }
 
 // 4, 5, 6 of entry i.
+#[tactic(auto, using(crate::proofs::Laws::Sheet::part_inside, crate::proofs::Laws::Check::entry_four, crate::proofs::Laws::Check::entry_five, crate::proofs::Laws::Check::entry_six, crate::proofs::Laws::Check::entry_none))]
 fn entry_refusal(s: &[u8], i: usize) -> Checked
     requires laid { Laid s.now }
     requires i_bound { i < count s.now }
@@ -66,6 +67,7 @@ fn entry_refusal(s: &[u8], i: usize) -> Checked
 }
 
 // 4, 5, 6 entry by entry.
+#[tactic(auto, using(crate::proofs::Laws::Check::refused_begin, crate::proofs::Laws::Check::refused_more, crate::proofs::Laws::Check::refused_stop))]
 fn entries_refusal(s: &[u8]) -> Checked
     requires { Laid s.now }
     ensures { number_of result ≡ entries_refusal (entries s.now) 0 (entries s.now) }
@@ -82,7 +84,11 @@ fn entries_refusal(s: &[u8]) -> Checked
     Checked::Passed
 }
 
+// The most levels a sheet may have.
+const MOST_LEVELS: u32 = 128;
+
 // 4 to 8 of a sheet whose records and places are right.
+#[tactic(auto, using(crate::proofs::Laws::Check::meaning_entries, crate::proofs::Laws::Check::meaning_levels))]
 fn meaning_refusal(s: &[u8]) -> Checked
     requires { Laid s.now }
     ensures { number_of result ≡ meaning_refusal (entries s.now) }
@@ -91,18 +97,20 @@ fn meaning_refusal(s: &[u8]) -> Checked
     if answer.number() != 0 {
         return answer;
     }
-    if 128 < levels(s) {
+    if MOST_LEVELS < levels(s) {
         return Checked::Levels;
     }
     let n = count(s);
     let last = kind(s, n - 1);
-    if last.sort != FORMULA {
+    let formula = last.sort == FORMULA;
+    if !formula {
         return Checked::Term;
     }
     Checked::Passed
 }
 
 // The check, for any bytes: 1, 2, 3 each over the whole sheet, then the rest.
+#[tactic(auto, using(crate::proofs::Laws::Check::check_short, crate::proofs::Laws::Check::check_sized, crate::proofs::Laws::Check::check_kinds, crate::proofs::Laws::Check::check_places, crate::proofs::Laws::Check::check_laid, crate::proofs::Laws::Check::check_meaning))]
 pub fn check(s: &[u8]) -> Checked
     ensures { number_of result ≡ check s.now }
 {

@@ -9,6 +9,7 @@ use crate::kind::{FORMULA, NEITHER};
 use crate::read::{count, kind, place, width};
 
 // 1: fewer than 2 bytes; N not 1..256; fewer than 2 + 4N bytes.
+#[tactic(auto, using(crate::proofs::Laws::Contents::short_bytes, crate::proofs::Laws::Contents::short_none, crate::proofs::Laws::Contents::short_many, crate::proofs::Laws::Contents::short_records))]
 pub fn short(s: &[u8]) -> bool
     ensures { result ≡ short s.now }
 {
@@ -42,6 +43,7 @@ fn allowed(sort: u8, width: u32) -> bool
 }
 
 // 2: every kind is in the table, and every width is allowed for its sort.
+#[tactic(auto, using(crate::proofs::Laws::Contents::kinds_more, crate::proofs::Laws::Contents::kinds_stop))]
 pub fn kinds_fit(s: &[u8], n: usize) -> bool
     requires { record_at n ≤ length s.now }
     ensures { result ≡ kinds_fit s.now 0 n }
@@ -59,6 +61,7 @@ pub fn kinds_fit(s: &[u8], n: usize) -> bool
 }
 
 // 3: bodies lie back to back from the contents' end on, and the last ends with the sheet.
+#[tactic(auto, using(crate::proofs::Laws::Kind::codes_small, crate::proofs::Laws::Contents::places_more))]
 pub fn places_fit(s: &[u8], n: usize) -> bool
     requires { (record_at n ≤ length s.now) × (n ≤ 256) }
     ensures { result ≡ places_fit s.now 0 n (record_at n) }

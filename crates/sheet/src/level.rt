@@ -9,6 +9,7 @@ use crate::kind::VARIABLE_NUMBER;
 use crate::read::{count, number, width};
 
 // How many levels entry j brings: its width, if it is a variable.
+#[tactic(auto, using(crate::proofs::Laws::Level::bits_none, crate::proofs::Laws::Level::bits_some))]
 pub fn bits_of(s: &[u8], j: usize) -> u32
     requires { record_at (j + 1) ≤ length s.now }
     ensures { (result ≡ variable_bits (entry_at s.now j)) × (result < 256) }
@@ -49,6 +50,7 @@ fn before(s: &[u8], i: usize, b: u32) -> u32
 }
 
 // How many levels there are: all bits come before bit 32, which no variable has.
+#[tactic(auto, using(crate::proofs::Laws::Level::before_levels))]
 pub fn levels(s: &[u8]) -> u32
     requires { Laid s.now }
     ensures { result ≡ levels (entries s.now) }
@@ -57,6 +59,7 @@ pub fn levels(s: &[u8]) -> u32
 }
 
 // The level of bit b of variable entry i.
+#[tactic(auto, using(crate::proofs::Laws::Level::level_at_lem))]
 pub fn level(s: &[u8], i: usize, b: u32) -> u32
     requires laid { Laid s.now }
     requires i_bound { (i < count s.now) × (b < variable_bits (entry_at s.now i)) }

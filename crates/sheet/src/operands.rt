@@ -10,6 +10,7 @@ use crate::kind::{A_FORMULA, A_VARIABLE, FORMULA, Kind, TERM, VARIABLE};
 use crate::read::{kind, operand};
 
 // What operand k has to be.
+#[tactic(auto, using(crate::proofs::Laws::Kind::need_first, crate::proofs::Laws::Kind::need_second, crate::proofs::Laws::Kind::need_third))]
 pub fn need_of(row: Kind, k: usize) -> u8
     requires { k < 3 }
     ensures { (x : Rule) → row ≡ codes_of x → result ≡ need_at k x.operands }

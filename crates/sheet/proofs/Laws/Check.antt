@@ -105,6 +105,17 @@ last_sort {s} laid n last is_n is_last =
     let at : length (entries s) - 1 ≡ n - 1 = omega (arith, entries_length s) in
     rw (at, entry_at_lem s (n - 1) (omega (arith, laid.some))) (codes_sort last (rule_at s (n - 1)) is_last)
 
+-- the same, from what the calls on the way there give
+pub ended_by : {s : List ℕ} {answer bits n : ℕ} {last : Kind} → Laid s →
+    answer ≡ entries_refusal (entries s) 0 (entries s) → answer ≡ 0 → bits ≡ levels (entries s) → bits ≤ 128 →
+    n ≡ count s → last ≡ codes_of (rule_at s (n - 1)) → Ended s last
+ended_by {n = n} {last = last} laid is_answer none is_bits few is_n is_last =
+    record {
+      entries_none = sym is_answer ∙ none;
+      few = rw is_bits at few;
+      sort = last_sort laid n last is_n is_last;
+    }
+
 module _ {s : List ℕ} {last : Kind} (ended : Ended s last) where
   pub meaning_term : (last.sort ≡ 3 → ⊥) → 8 ≡ meaning_refusal (entries s)
   unfolding meaning_refusal
