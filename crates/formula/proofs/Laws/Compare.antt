@@ -76,6 +76,19 @@ pub record Diagrams (cells w : List ℕ) (b : Builder) (x y r : ℕ) : Type 0 wh
   pub other_x : x ≢ mark
   pub other_y : y ≢ mark
 
+-- by the contract of `agree_bit`, past its two tests
+pub diagrams : {cells w : List ℕ} {b : Builder} {x y r : ℕ} → Alive cells w b × (BitKnown b x × (BitKnown b y × Known b r))
+    → x ≢ mark → y ≢ mark → Diagrams cells w b x y r
+diagrams pre other_x other_y =
+    record {
+      alive = pre.0;
+      known_x = pre.1.0;
+      known_y = pre.1.1.0;
+      known_r = pre.1.1.1;
+      other_x = other_x;
+      other_y = other_y;
+    }
+
 module _ {cells w : List ℕ} {b : Builder} {x y r : ℕ} (both : Diagrams cells w b x y r) where
   is_x : Known b x
   is_x = known_unmarked b x both.known_x both.other_x
