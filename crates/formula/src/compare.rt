@@ -23,7 +23,8 @@ fn agree_bit(b: Builder, t: &mut [Cell], w: &mut [u32], x: u32, y: u32, r: u32) 
     if x == Diagram::UNKNOWN.0 {
         return Made { at: b, number: r };
     }
-    if y == Diagram::UNKNOWN.0 {
+    let unknown = y == Diagram::UNKNOWN.0;
+    if unknown {
         return Made { at: b, number: r };
     }
     let agree = b.step(t, w, function::AGREE, x, y, 0);

@@ -16,6 +16,7 @@ use term::row::Row;
 
 // The value of operand k of entry i, whose body this is and which has so many operands; nothing where there is no such
 // operand.
+#[tactic(auto, using(crate::proofs::Laws::Operand::none_read, crate::proofs::Laws::Operand::operand_inside, crate::proofs::Laws::Operand::width_inside, crate::proofs::Laws::Operand::value_inside, crate::proofs::Laws::Operand::operand_read))]
 fn operand(s: &[u8], kept: &[u32], i: usize, body: &[u8], many: usize, k: usize) -> Row
     requires reaches { Reaches s.now kept.now i }
     requires opened { Opened s.now i body.now many }
@@ -33,6 +34,7 @@ fn operand(s: &[u8], kept: &[u32], i: usize, body: &[u8], many: usize, k: usize)
 }
 
 // Kind and body are read once an entry.
+#[tactic(auto, using(crate::proofs::Laws::Operand::entry_inside, crate::proofs::Laws::Operand::part_inside, crate::proofs::Laws::Operand::opened))]
 fn operands(s: &[u8], kept: &[u32], i: usize) -> Operands
     requires { Reaches s.now kept.now i }
     ensures { OperandReads s.now kept.now i 0 result.x ×
@@ -57,6 +59,7 @@ struct Outcome {
 }
 
 // Every entry, in entry order, needed by the last one or not; but once a node had no slot, nothing that follows counts.
+#[tactic(auto, using(sheet::proofs::Laws::Check::checked_laid, crate::proofs::Laws::Turn::going_start, crate::proofs::Laws::Turn::going_next, crate::proofs::Laws::Turn::going_full, crate::proofs::Laws::Turn::going_done, crate::proofs::Laws::Turn::operand_meant, crate::proofs::Laws::Turn::operand_held, crate::proofs::Laws::Turn::before_length))]
 fn run(s: &[u8], limit: usize, t: &mut [Cell], kept: &mut [u32], w: &mut [u32]) -> Outcome
     requires { Runs s.now limit t.old kept.old }
     ensures { Ran s.now limit t.old t.new result.at result.must result.may }
@@ -107,6 +110,7 @@ fn run_somewhere(s: &[u8], limit: usize, t: &mut [Cell], work: &mut [u32]) -> Ou
 }
 
 // The first refusal among 1 to 10, or 0.
+#[tactic(auto, using(crate::proofs::Laws::Answer::input_check, crate::proofs::Laws::Answer::input_nine, crate::proofs::Laws::Answer::input_ten, crate::proofs::Laws::Answer::input_none))]
 fn refusal(s: &[u8], t: &[Cell], work: &[u32]) -> u32
     ensures { result ≡ input_refusal s.now (length t.now) (length work.now) }
 {
@@ -125,6 +129,7 @@ fn refusal(s: &[u8], t: &[Cell], work: &[u32]) -> u32
 }
 
 // The answer after a run: 11 and a table of zeros, or the numbers, and zeros behind the nodes.
+#[tactic(auto, using(crate::proofs::Laws::Answer::meets_full, crate::proofs::Laws::Answer::meets_free))]
 fn finish(t: &mut [Cell], end: Outcome) -> Answer
     requires { Roomy t.old end.at }
     ensures { Finishes t.old end.at end.must end.may result t.new }
@@ -146,6 +151,7 @@ fn finish(t: &mut [Cell], end: Outcome) -> Answer
 }
 
 // Solve at a limit, for any bytes and any buffers.
+#[tactic(auto, using(crate::proofs::Laws::Answer::input_passes, crate::proofs::Laws::Answer::meets_refused, crate::proofs::Laws::Answer::meets_worked))]
 pub fn solve(s: &[u8], limit: u32, t: &mut [Cell], work: &mut [u32]) -> Answer
     ensures { Meets (solve s.now limit (length t.old) (length work.old)) result
         t.old work.old t.new work.new }
@@ -160,6 +166,7 @@ pub fn solve(s: &[u8], limit: u32, t: &mut [Cell], work: &mut [u32]) -> Answer
 }
 
 // The limit where none is named.
+#[tactic(auto, unfolding(meaning::specs::Solve::unnamed_limit))]
 pub fn unnamed_limit(slots: usize) -> u32
     ensures { result ≡ unnamed_limit slots }
 {
@@ -167,6 +174,7 @@ pub fn unnamed_limit(slots: usize) -> u32
 }
 
 // Solve without a named limit.
+#[tactic(auto, using(crate::proofs::Laws::Answer::meets_unnamed))]
 pub fn solve_unnamed(s: &[u8], t: &mut [Cell], work: &mut [u32]) -> Answer
     ensures { Meets (solve_unnamed s.now (length t.old) (length work.old)) result
         t.old work.old t.new work.new }

@@ -1,0 +1,7 @@
+-- `solve_unnamed` is `solve` at the definition's limit.
+use Rattle.prover.proofs.Laws.Answer.{meets_unnamed}
+use Rattle.prover.proofs.solve.solve_unnamed.Goals as goal
+
+pub returns : goal.returns
+returns c = meets_unnamed _ c.args.t.now c.args.work.now _ _ _ _ c.unnamed_limit-limit.ensures
+    c.solve.ensures
