@@ -59,7 +59,6 @@ struct Outcome {
 }
 
 // Every entry, in entry order, needed by the last one or not; but once a node had no slot, nothing that follows counts.
-#[tactic(auto, using(sheet::proofs::Laws::Check::checked_laid, crate::proofs::Laws::Turn::going_start, crate::proofs::Laws::Turn::going_next, crate::proofs::Laws::Turn::going_full, crate::proofs::Laws::Turn::going_done, crate::proofs::Laws::Turn::operand_meant, crate::proofs::Laws::Turn::operand_held, crate::proofs::Laws::Turn::before_length))]
 fn run(s: &[u8], limit: usize, t: &mut [Cell], kept: &mut [u32], w: &mut [u32]) -> Outcome
     requires { Runs s.now limit t.old kept.old }
     ensures { Ran s.now limit t.old t.new result.at result.must result.may }

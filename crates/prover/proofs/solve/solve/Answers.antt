@@ -7,5 +7,5 @@ use Rattle.prover.proofs.solve.solve.Goals as goal
 pub returns : goal.returns
 returns c = meets_worked _ _ _ c.args.work.now _ c.refusal-refused.ensures _ _ _ _ c.if-refused-ne0.false
     (c.clear.ensures ∙ ap (λ n. replicate n 0)
-    c.run_somewhere-end.auto.1.1.1.0)
+    c.run_somewhere-end.auto.work)
     (c.finish.ensures _ _ _ c.args.work.now c.run_somewhere-end.ensures)
