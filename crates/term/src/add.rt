@@ -97,7 +97,7 @@ fn clear(t: &[Cell], marks: &mut [u32], counted: usize)
 
 // Counts the distinct nodes of sum bits 0 to k - 1, those of the first bits being counted before. While no more slots
 // are used than the limit, the nodes can't exceed it, and none is counted.
-#[tactic(auto, using(crate::proofs::Laws::Count::told_few, crate::proofs::Laws::Count::clear_room))]
+#[tactic(auto, using(crate::proofs::Laws::Count::told_few))]
 fn walk(
     b: Builder,
     t: &[Cell],

@@ -35,7 +35,6 @@ fn decided(a: u32, decider: u32) -> u32
 }
 
 // Two bits of and, or, xor.
-#[tactic(auto, using(crate::proofs::Laws::Rows::known_unmarked, crate::proofs::Laws::Rows::known_terminal))]
 fn pair_bit(b: Builder, t: &mut [Cell], w: &mut [u32], f: u32, decider: u32, x: u32, y: u32) -> Made
     requires { Alive t.old w.old b × ((f < 256) × (Decider decider × (BitKnown b x × BitKnown b y))) }
     ensures { (n : ℕ) (p q : Bit) → n ≤ 128 → BitMeans n t.old b x p → BitMeans n t.old b y q → BitMade n t.old w.old b (pair_bit n (table_of f) (decides decider) p q) t.new w.new result.at result.number }
@@ -56,7 +55,7 @@ fn pair_bit(b: Builder, t: &mut [Cell], w: &mut [u32], f: u32, decider: u32, x: 
 }
 
 // Two bits under a condition whose must and may are these.
-#[tactic(auto, using(crate::proofs::Laws::Rows::known_unmarked, crate::proofs::Laws::Bit::quiet, crate::proofs::Laws::Bit::choose_true, crate::proofs::Laws::Bit::choose_false))]
+#[tactic(auto, using(crate::proofs::Laws::Bit::quiet, crate::proofs::Laws::Bit::choose_true, crate::proofs::Laws::Bit::choose_false))]
 fn choose_bit(
     b: Builder,
     t: &mut [Cell],
@@ -101,7 +100,6 @@ fn choose_bit(
 }
 
 // One bit of an operation.
-#[tactic(auto, using(crate::proofs::Laws::Rows::known_unmarked, crate::proofs::Laws::Rows::known_terminal, crate::proofs::Laws::Bit::terminal_decides, crate::proofs::Laws::Bit::told_under, crate::proofs::Laws::Bit::told_known))]
 fn bit(b: Builder, t: &mut [Cell], w: &mut [u32], op: Operation, x: u32, y: u32) -> Made
     requires { Alive t.old w.old b × (UnderKnown b op × (BitKnown b x × BitKnown b y)) }
     ensures { (n : ℕ) (must may : Tree) (p q : Bit) → n ≤ 128 → Under n t.old b op must may → BitMeans n t.old b x p → BitMeans n t.old b y q → BitMade n t.old w.old b (bit_of n op must may p q) t.new w.new result.at result.number }

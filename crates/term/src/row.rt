@@ -32,7 +32,7 @@ pub fn filled(width: usize, number: u32) -> Row
 }
 
 // `into`, with `count` places of `of` from `from` on put at `at`.
-#[tactic(auto, using(crate::proofs::Laws::Places::put_start, crate::proofs::Laws::Places::put_done))]
+#[tactic(auto, using(crate::proofs::Laws::Places::put_done))]
 pub fn placed(into: Row, at: usize, of: Row, from: usize, count: usize) -> Row
     requires { (into.width ≤ 32) × ((of.width ≤ 32) × ((at + count ≤ into.width) × (from + count ≤ of.width))) }
     ensures { (result.width ≡ into.width) × (places result ≡ paste (places into) at (drop from (places of)) count) }
@@ -48,7 +48,6 @@ pub fn placed(into: Row, at: usize, of: Row, from: usize, count: usize) -> Row
 }
 
 // A constant's bits are terminals.
-#[tactic(auto, using(crate::proofs::Laws::Places::digits_start, crate::proofs::Laws::Places::digits_done))]
 pub fn constant(width: usize, value: u32) -> Row
     requires { width ≤ 32 }
     ensures { (result.width ≡ width) × (places result ≡ map digit (bits width value)) }
@@ -85,7 +84,6 @@ pub fn shift_right(k: usize, a: Row) -> Row
 }
 
 // The first operand is the high part.
-#[tactic(auto, using(crate::proofs::Laws::Places::joined))]
 pub fn concat(a: Row, b: Row) -> Row
     requires { a.width + b.width ≤ 32 }
     ensures { (result.width ≡ a.width + b.width) × (places result ≡ places b ++ places a) }
@@ -105,7 +103,6 @@ pub fn low_part(a: Row, count: usize) -> Row
 }
 
 // Places l to u.
-#[tactic(auto, using(crate::proofs::Laws::Places::cut_out))]
 pub fn extract(u: usize, l: usize, a: Row) -> Row
     requires { (a.width ≤ 32) × ((l ≤ u) × (u < a.width)) }
     ensures { (result.width ≡ u - l + 1) × (places result ≡ take (u - l + 1) (drop l (places a))) }

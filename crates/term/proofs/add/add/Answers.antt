@@ -1,6 +1,6 @@
 -- `add::add` meets its contract, by a law for each step of the loop.
-use native.Mathlib.Omega.{arith}
-use lib.ListN.{get_or-replicate}
+use Rattle.std.proofs.Common.{arith}
+use Rattle.std.proofs.lemmas.List.{get_or-replicate}
 use Rattle.term.specs.Row.{mark}
 use Rattle.term.proofs.Laws.Add.{loop_start, loop_summing, loop_next, loop_counts, loop_stop, loop_done}
 use Rattle.term.proofs.add.add.Goals as goal

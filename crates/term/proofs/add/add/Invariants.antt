@@ -1,5 +1,5 @@
--- `add::add` meets its contract. The invariant: what was made of the sum and what is left are the whole.
-use Prim.Native.Nat.{◌-◌}
+-- The invariant of `add::add`: what was made of the sum and what is left are the whole.
+use Rattle.std.proofs.Common.{◌-◌}
 use Rattle.term.proofs.Laws.Add.{AddLoop}
 use Rattle.term.proofs.add.add.Given as goal
 

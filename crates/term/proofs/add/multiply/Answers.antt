@@ -1,5 +1,5 @@
 -- `add::multiply` meets its contract, by a law for each step of the loop.
-use mathlib.Core.Path.{◌∙◌}
+use Rattle.std.proofs.Common.{◌∙◌}
 use Rattle.term.proofs.Laws.Multiply.{multiply_start, multiply_partial, multiply_addable}
 use Rattle.term.proofs.Laws.Multiply.{multiply_next, multiply_done}
 use Rattle.term.proofs.add.multiply.Goals as goal

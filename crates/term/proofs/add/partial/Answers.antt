@@ -1,8 +1,5 @@
 -- `add::partial` meets its contract.
-use native.Mathlib.Omega.{arith}
-use mathlib.Core.Path.{◌≡◌}
-use lib.ListN.{length}
-use borrow.Author.Rules.{rules}
+use Rattle.std.proofs.Common.{arith, length, rules, ◌≡◌}
 use Rattle.term.proofs.Laws.Multiply.{parting, partial_works, partial_width, partial_made}
 use Rattle.term.proofs.add.partial.Goals as goal
 

@@ -1,8 +1,5 @@
 -- `add::place` meets its contract, by a law for each path.
-use mathlib.Core.Path.{refl}
-use Prim.Native.Nat.{◌<◌}
-use lib.ListN.{length}
-use borrow.Author.Rules.{rules}
+use Rattle.std.proofs.Common.{length, refl, rules, ◌<◌}
 use Rattle.term.proofs.Laws.Rows.{known_unmarked}
 use Rattle.term.proofs.Laws.Count.{exceeds_full, exceeds_over, exceeds_not}
 use Rattle.term.proofs.Laws.OnePlace.{placed_left, placed_right, placed_over, placed_on, cut_tallying}

@@ -1,6 +1,5 @@
--- `add::walk` meets its contract. The invariant: the first i sum bits are counted, or they are more than the limit.
-use Rattle.term.proofs.Laws.Count.{walk_start, walk_next}
-use Rattle.term.proofs.Laws.Count.{told_counted, visit_room}
+-- `add::walk` meets its contract, by a law for each step of the loop.
+use Rattle.term.proofs.Laws.Count.{walk_start, walk_next, told_counted, visit_room}
 use Rattle.term.proofs.add.walk.Goals as goal
 
 pub loop-i-init : goal.loop-i-init
@@ -10,9 +9,9 @@ pub visit-nodes-requires : goal.visit-nodes-requires
 visit-nodes-requires c = (visit_room c.requires c.clear.auto.marks c.loop-i.invariant c.loop-i-test.true, c.requires.low)
 
 pub loop-i-preserved : goal.loop-i-preserved
-loop-i-preserved c = walk_next c.requires.laid.single c.loop-i.invariant c.loop-i-test.true
-    c.visit-nodes.auto.marks c.visit-nodes.ensures
+loop-i-preserved c =
+    walk_next c.requires.laid.single c.loop-i.invariant c.loop-i-test.true c.visit-nodes.auto.marks
+    c.visit-nodes.ensures
 
 pub returns : goal.returns
-returns c = told_counted c.requires c.loop-i.invariant
-    c.loop-i-test.false
+returns c = told_counted c.requires c.loop-i.invariant c.loop-i-test.false

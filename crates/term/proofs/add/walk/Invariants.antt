@@ -1,5 +1,5 @@
--- `add::walk` meets its contract. The invariant: the first i sum bits are counted, or they are more than the limit.
-use Prim.Native.Nat.{◌-◌}
+-- The invariant of `add::walk`: the first i sum bits are counted, or they are more than the limit.
+use Rattle.std.proofs.Common.{◌-◌}
 use Rattle.term.proofs.Laws.Count.{Walk}
 use Rattle.term.proofs.add.walk.Given as goal
 

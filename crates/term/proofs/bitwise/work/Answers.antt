@@ -1,5 +1,5 @@
 -- `bitwise::work` meets its contract, by a law for each step of the loop.
-use mathlib.Core.Path.{refl}
+use Rattle.std.proofs.Common.{refl}
 use Rattle.term.proofs.Laws.Bitwise.{going_start, going_next, going_done, going_known}
 use Rattle.term.proofs.bitwise.work.Goals as goal
 

@@ -1,6 +1,5 @@
--- `bitwise::work` meets its contract. The loop's invariant: the first i places were worked on, whatever bits and condition
--- the numbers stand for.
-use Prim.Native.Nat.{◌-◌}
+-- The invariant of `bitwise::work`: the first i places were worked on, whatever bits and condition the numbers stand for.
+use Rattle.std.proofs.Common.{◌-◌}
 use Rattle.term.proofs.Laws.Bitwise.{Going}
 use Rattle.term.proofs.bitwise.work.Given as goal
 

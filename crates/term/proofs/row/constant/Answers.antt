@@ -1,4 +1,4 @@
--- `row::constant` meets its contract. The invariant: the digits placed and those of the rest are the constant's.
+-- `row::constant` meets its contract.
 use Rattle.term.proofs.Laws.Places.{digits_next}
 use Rattle.term.proofs.row.constant.Goals as goal
 

@@ -1,5 +1,5 @@
--- `row::constant` meets its contract. The invariant: the digits placed and those of the rest are the constant's.
-use Prim.Native.Nat.{◌-◌}
+-- The invariant of `row::constant`: the digits placed and those of the rest are the constant's.
+use Rattle.std.proofs.Common.{◌-◌}
 use Rattle.term.proofs.Laws.Places.{Digits}
 use Rattle.term.proofs.row.constant.Given as goal
 

@@ -1,5 +1,5 @@
 -- `row::filled` meets its contract.
-use mathlib.Core.Path.{refl}
+use Rattle.std.proofs.Common.{refl}
 use Rattle.term.proofs.Laws.Places.{take_replicate}
 use Rattle.term.proofs.row.filled.Goals as goal
 

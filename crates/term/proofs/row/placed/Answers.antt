@@ -1,5 +1,5 @@
--- `row::placed` meets its contract. The invariant: the first i places have been put.
-use native.Mathlib.Omega.{arith}
+-- `row::placed` meets its contract.
+use Rattle.std.proofs.Common.{arith}
 use Rattle.term.proofs.Laws.Places.{put_next}
 use Rattle.term.proofs.row.placed.Goals as goal
 

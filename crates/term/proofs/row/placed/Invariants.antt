@@ -1,5 +1,5 @@
--- `row::placed` meets its contract. The invariant: the first i places have been put.
-use Prim.Native.Nat.{◌-◌}
+-- The invariant of `row::placed`: the first i places have been put.
+use Rattle.std.proofs.Common.{◌-◌}
 use Rattle.term.proofs.Laws.Places.{Putting}
 use Rattle.term.proofs.row.placed.Given as goal
 
