@@ -19,6 +19,7 @@ fn must_witness(t: &[Cell], used: u32, must: u32) -> [u8; 128]
 }
 
 // The listing of an answer, t being the table that solve left.
+#[tactic(auto, using(crate::proofs::Laws::Answered::number_checked, crate::proofs::Laws::Answered::listing_unsat, crate::proofs::Laws::Answered::listing_solved))]
 fn list_answer(s: &[u8], t: &[Cell], a: Answer, out: &mut [u8; 16384]) -> usize
     requires { Answered s.now a t.now }
     ensures { (take result out.new ≡ listing s.now) × (result ≤ length out.new) }
@@ -39,6 +40,7 @@ fn list_answer(s: &[u8], t: &[Cell], a: Answer, out: &mut [u8; 16384]) -> usize
 }
 
 // The listing of any bytes.
+#[tactic(auto, using(crate::proofs::Laws::Answered::meets_answered))]
 pub fn listing(s: &[u8], out: &mut [u8; 16384]) -> usize
     ensures { (take result out.new ≡ listing s.now) × (result ≤ length out.new) }
 {
@@ -49,6 +51,7 @@ pub fn listing(s: &[u8], out: &mut [u8; 16384]) -> usize
 }
 
 // What the program prints, from the bytes that it reads: no more than 2,563 of them count.
+#[tactic(auto, using(crate::proofs::Laws::Answered::program_short, crate::proofs::Laws::Answered::program_long))]
 pub fn program(input: &[u8], out: &mut [u8; 16384]) -> usize
     ensures { (take result out.new ≡ program input.now) × (result ≤ length out.new) }
 {
