@@ -1,13 +1,15 @@
 // Reads a sheet from standard input, 2,563 bytes at most, and prints its listing.
 #![tactic(auto)]
 
-use libc::{STDIN_FILENO, STDOUT_FILENO};
+use listing::input::read_full;
 use listing::program::program;
+use std::io;
+use std::io::Write;
 
-fn main() {
+fn main(rt: HostRuntime) -> io::Result<()> {
     let mut input = [0u8; 2563];
     let mut out = [0u8; 16384];
-    let n = io::read_full(STDIN_FILENO, &mut input);
+    let n = read_full(&mut rt.stdin(), &mut input)?;
     let end = program(&input[0..n], &mut out);
-    io::write_all(STDOUT_FILENO, &out[0..end]);
+    rt.stdout().write_all(&out[0..end])
 }
