@@ -5,7 +5,7 @@
 --   same_equal     a table rewritten for two equal numbers asks the same of the operands
 --   false_a ..     the nine rewritings of `shorten`
 --   shorter        so it does with 0 for each operand that it does not look at
---   answer-..      what `shortcut` answers
+--   answer_..      what `shortcut` answers
 use Prim.Native.Nat.{ℕ, zero, suc, ◌+◌, ◌*◌, ◌/◌, ◌%◌, ◌^◌, ◌≤◌, ◌<◌}
 use native.Mathlib.Nat.{not-suc-le-zero, mul-le-mul, div-le_self}
 use native.Mathlib.Omega.{arith}

@@ -1,8 +1,8 @@
 -- One entry: what its kind number says of it and of its operands, and its work.
 --
---   ruled, number-some, last_kind     from the kind number to the row of the kind table
+--   given_number, some_kind, last_kind        from the kind number to the row of the kind table
 --   one_term_lem, two_terms_lem, ..           what the operands' numbers are, by the operands' sorts and the widths
---   row_enters, truth_enters          an operation's work is the entry's
+--   row_enters, truth_enters                  an operation's work is the entry's
 use Prim.Native.Nat.{ℕ, ◌≤◌, ◌<◌}
 use native.Mathlib.Omega.{arith}
 use mathlib.Core.Path.{◌≡◌, refl, sym, ap, subst, ◌∙◌}

@@ -1,5 +1,5 @@
 -- The kind table: the code's is the definition's (kinds_at up to 50, kinds_end from there on), what a row of the code's
--- tells (codes-..), what holds of every row (rule_made), and which row is the variable's (variable_sort, other_sort_lem).
+-- tells (codes_..), what holds of every row (rule_made), and which row is the variable's (variable_sort, other_sort_lem).
 use Prim.Native.Nat.{ℕ, zero, suc, ◌*◌, ◌≤◌, ◌<◌}
 use mathlib.Core.Path.{◌≡◌, refl, sym, ap, ◌∙◌}
 use mathlib.Core.Bool.{Bool, true, false, cond, not, ◌&&◌, and-eq-true_iff}

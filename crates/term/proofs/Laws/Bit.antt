@@ -2,9 +2,9 @@
 --
 --   quiet      no step: the number stands for the value of work without steps (`Still`)
 --   stepped    one step: the work is the step of the operands' diagrams (`Asks`)
---   not-..     the paths of not
---   pair-..    those of and, or, xor
---   choose-..  those of if-then-else
+--   not_..     the paths of not
+--   pair_..    those of and, or, xor
+--   choose_..  those of if-then-else
 use Prim.Native.Nat.{ℕ, zero, suc, ◌≤◌, ◌<◌}
 use native.Mathlib.Omega.{arith}
 use mathlib.Core.Path.{◌≡◌, refl, sym, ap, ◌∙◌}

@@ -1,8 +1,8 @@
 -- The count of the sum bits' nodes at a limit.
 --
---   tallies-..   what is counted stays so when the table grows and when there is one sum bit more
+--   tallies_..   what is counted stays so when the table grows and when there is one sum bit more
 --   Walk         the loop: the first i sum bits are counted, or they are more than the limit
---   exceeds-..   whether they exceed the limit, a law for each path of the code
+--   exceeds_..   whether they exceed the limit, a law for each path of the code
 use Prim.Native.Nat.{ℕ, zero, suc, ◌+◌, ◌*◌, ◌/◌, ◌≤◌, ◌<◌}
 use native.Mathlib.Omega.{arith}
 use native.Mathlib.Numerals.{add-one}

@@ -2,7 +2,7 @@
 --
 --   after_full         once the table is full, more steps leave it full
 --   add_over, add_on   what the definition does at a place where both bits are known
---   placed-..          the paths of the code
+--   placed_..          the paths of the code
 use Prim.Native.Nat.{ℕ, suc, ◌+◌, ◌/◌, ◌≤◌, ◌<◌}
 use native.Mathlib.Omega.{arith}
 use mathlib.Core.Path.{◌≡◌, refl, sym, ap, ◌∙◌}
