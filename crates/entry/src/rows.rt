@@ -5,7 +5,6 @@ ghost use Rattle.entry.specs.Rows.{Reads, Keeps};
 use term::row::Row;
 
 // The value of entry o, whose width is this.
-#[tactic(auto, using(crate::proofs::Laws::Rows::read_start, crate::proofs::Laws::Rows::read_next, crate::proofs::Laws::Rows::read_done))]
 pub fn value_at(rows: &[u32], o: usize, width: usize) -> Row
     requires { 32 * o + 32 ≤ length rows.now }
     ensures { Reads rows.now o width result }
@@ -20,7 +19,6 @@ pub fn value_at(rows: &[u32], o: usize, width: usize) -> Row
 }
 
 // From now on the value of entry i.
-#[tactic(auto, using(crate::proofs::Laws::Rows::written_start, crate::proofs::Laws::Rows::written_next, crate::proofs::Laws::Rows::written_done))]
 pub fn keep(rows: &mut [u32], i: usize, value: Row)
     requires { 32 * i + 32 ≤ length rows.old }
     ensures { Keeps rows.old i value rows.new }

@@ -68,7 +68,7 @@ fn unchanged(b: Builder, row: Row) -> Worked
 }
 
 // The levels of variable entry o, bit 0's first.
-#[tactic(auto, using(crate::proofs::Laws::Levels::reading_start, crate::proofs::Laws::Levels::reading_next, crate::proofs::Laws::Levels::reading_done, crate::proofs::Laws::Levels::passed_laid, crate::proofs::Laws::Levels::passed_record, crate::proofs::Laws::Levels::passed_wide))]
+#[tactic(auto, using(crate::proofs::Laws::Levels::passed_laid))]
 fn levels_of(s: &[u8], o: usize) -> Levels
     requires { (check s.now ≡ 0) × (o < count s.now) }
     ensures { Levelled s.now o result }
@@ -105,7 +105,6 @@ fn nodes(b: Builder, t: &mut [Cell], w: &mut [u32], levels: Levels) -> Worked
 }
 
 // Kind 1.
-#[tactic(auto, using(crate::proofs::Laws::Levels::levelled_fit, crate::proofs::Laws::Levels::levelled_makes))]
 fn variable(b: Builder, t: &mut [Cell], w: &mut [u32], s: &[u8], i: usize) -> Worked
     requires { Alive t.old w.old b × ((check s.now ≡ 0) × ((i < count s.now) × (number_at s.now i ≡ 1))) }
     ensures { Makes (levels (entries s.now)) t.old w.old b (Run.variable (entries s.now) i (width_at s.now i)) t.new w.new result.at result.row }
@@ -115,7 +114,7 @@ fn variable(b: Builder, t: &mut [Cell], w: &mut [u32], s: &[u8], i: usize) -> Wo
 }
 
 // Terms without a step: kinds 10 to 15.
-#[tactic(auto, using(sheet::proofs::Laws::Passed::laid_body, crate::proofs::Laws::Levels::passed_laid, crate::proofs::Laws::Levels::passed_record))]
+#[tactic(auto, using(crate::proofs::Laws::Levels::passed_laid))]
 fn moved(b: Builder, s: &[u8], i: usize, kind: u8, v: Operands) -> Worked
     requires { Given s.now b i v × ((kind ≡ number_at s.now i) × ((10 ≤ kind) × (kind < 16))) }
     ensures { (limit : ℕ) (cells w : List ℕ) → Alive cells w b → Promise s.now limit i v cells w b cells w result.at result.row }
@@ -138,7 +137,7 @@ fn moved(b: Builder, s: &[u8], i: usize, kind: u8, v: Operands) -> Worked
 }
 
 // A constant: kind 2.
-#[tactic(auto, using(sheet::proofs::Laws::Passed::laid_body, crate::proofs::Laws::Levels::passed_laid, crate::proofs::Laws::Levels::passed_record, crate::proofs::Laws::Entry::wide_at), unfolding(meaning::specs::Kind::rule_of, meaning::specs::Kind::rules))]
+#[tactic(auto, using(crate::proofs::Laws::Levels::passed_laid))]
 fn constant(b: Builder, s: &[u8], i: usize, v: Operands) -> Worked
     requires { Given s.now b i v × (number_at s.now i ≡ 2) }
     ensures { (limit : ℕ) (cells w : List ℕ) → Alive cells w b → Promise s.now limit i v cells w b cells w result.at result.row }
@@ -189,7 +188,7 @@ fn choose(b: Builder, t: &mut [Cell], w: &mut [u32], s: &[u8], i: usize, v: Oper
 }
 
 // Exists, forall: kinds 48 and 49.
-#[tactic(auto, using(sheet::proofs::Laws::Passed::laid_body, crate::proofs::Laws::Levels::passed_laid, crate::proofs::Laws::Levels::levelled_fit, crate::proofs::Laws::Entry::bound, crate::proofs::Laws::Kinds::variable_formula_lem, crate::proofs::Laws::Kinds::taken_known, crate::proofs::Laws::Kinds::bound_inside, crate::proofs::Laws::Kinds::bound_below, crate::proofs::Laws::Kinds::bound_is, crate::proofs::Laws::Kinds::quantified_done))]
+#[tactic(auto, using(crate::proofs::Laws::Levels::passed_laid, crate::proofs::Laws::Entry::bound, crate::proofs::Laws::Kinds::variable_formula_lem))]
 fn quantified(
     b: Builder,
     t: &mut [Cell],
@@ -238,7 +237,6 @@ fn formula(
 }
 
 // Entry i of a sheet that has passed the check.
-#[tactic(auto, using(crate::proofs::Laws::Levels::passed_record, crate::proofs::Laws::Entry::given, crate::proofs::Laws::Entry::some_kind, crate::proofs::Laws::Kinds::variable_done))]
 pub fn work(
     b: Builder,
     t: &mut [Cell],

@@ -33,7 +33,6 @@ fn agree_bit(b: Builder, t: &mut [Cell], w: &mut [u32], x: u32, y: u32, r: u32) 
 }
 
 // The conjunction, from bit 0 on, of "the bits agree" where both are known.
-#[tactic(auto, using(crate::proofs::Laws::Rowed::rowed_start, crate::proofs::Laws::Rowed::rowed_ready, crate::proofs::Laws::Rowed::rowed_kept, crate::proofs::Laws::Rowed::rowed_next, crate::proofs::Laws::Rowed::rowed_done, crate::proofs::Laws::Rowed::agree_along, crate::proofs::Laws::Rowed::agree_splits))]
 fn agreement(b: Builder, t: &mut [Cell], w: &mut [u32], x: Row, y: Row) -> Made
     requires { Alive t.old w.old b × (RowKnown b x × (RowKnown b y × (x.width ≡ y.width))) }
     ensures { (n : ℕ) (p q : Meaning.Row) → n ≤ 128 → RowMeans n t.old b x p → RowMeans n t.old b y q → MakesTree n t.old w.old b (Formula.equal_from n (leaf true) p q) t.new w.new result.at result.number }
@@ -80,7 +79,6 @@ fn kept(x: bool, y: bool, may: u32) -> u32
 }
 
 // May is the conjunction; must is the same if no bit was unknown, else false.
-#[tactic(auto, using(crate::proofs::Laws::Judge::equal_judges))]
 pub fn equal(b: Builder, t: &mut [Cell], w: &mut [u32], x: Row, y: Row) -> Judged
     requires { Alive t.old w.old b × (RowKnown b x × (RowKnown b y × (x.width ≡ y.width))) }
     ensures { (n : ℕ) (p q : Meaning.Row) → n ≤ 128 → RowMeans n t.old b x p → RowMeans n t.old b y q → Judges n t.old w.old b (Formula.equal n p q) t.new w.new result.at result.pair }
@@ -155,7 +153,6 @@ fn is_top(signed: bool, i: usize, width: usize) -> bool
 }
 
 // The chain from bit 0 on: an unknown bit of x is read as z, one of y as its opposite.
-#[tactic(auto, using(crate::proofs::Laws::Rowed::rowed_start, crate::proofs::Laws::Rowed::rowed_ready, crate::proofs::Laws::Rowed::rowed_kept, crate::proofs::Laws::Rowed::rowed_next, crate::proofs::Laws::Rowed::rowed_done, crate::proofs::Laws::Rowed::order_along, crate::proofs::Laws::Rowed::order_splits))]
 fn chain(b: Builder, t: &mut [Cell], w: &mut [u32], signed: bool, z: bool, x: Row, y: Row) -> Made
     requires { Alive t.old w.old b × (RowKnown b x × (RowKnown b y × (x.width ≡ y.width))) }
     ensures { (n : ℕ) (p q : Meaning.Row) → n ≤ 128 → RowMeans n t.old b x p → RowMeans n t.old b y q → MakesTree n t.old w.old b (Formula.chain n signed z (leaf true) p q) t.new w.new result.at result.number }

@@ -48,7 +48,6 @@ pub fn both(b: Builder, t: &mut [Cell], w: &mut [u32], f: u32, p: Pair, q: Pair)
 }
 
 // Must is not may, may is not must, in this order.
-#[tactic(auto, using(crate::proofs::Laws::Pair::negation_judges))]
 pub fn negation(b: Builder, t: &mut [Cell], w: &mut [u32], p: Pair) -> Judged
     requires { Alive t.old w.old b × PairKnown b p }
     ensures { (n : ℕ) (x : Formula.Pair) → n ≤ 128 → PairMeans n t.old b p x → Judges n t.old w.old b (Formula.negation n x) t.new w.new result.at result.pair }

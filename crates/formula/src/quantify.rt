@@ -18,7 +18,6 @@ pub struct Levels {
 }
 
 // The or (and) of both choices at each of the levels, the last one's first.
-#[tactic(auto, using(crate::proofs::Laws::Quantify::chained_start, crate::proofs::Laws::Quantify::chained_ready, crate::proofs::Laws::Quantify::chained_kept, crate::proofs::Laws::Quantify::chained_next, crate::proofs::Laws::Quantify::chained_done))]
 fn chain(b: Builder, t: &mut [Cell], w: &mut [u32], every: bool, levels: Levels, a: u32) -> Made
     requires { Alive t.old w.old b × (LevelsFit levels × Known b a) }
     ensures { (n : ℕ) (x : Tree) → n ≤ 128 → TreeMeans n t.old b a x → MakesTree n t.old w.old b (Formula.quantify_all n (chooser every) (level_list levels) x) t.new w.new result.at result.number }

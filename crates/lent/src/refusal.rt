@@ -43,7 +43,7 @@ fn sound_node(t: &[Cell], k: usize) -> bool
 }
 
 // 12: used count above the slots, or a used node that is not sound.
-#[tactic(auto, using(crate::proofs::Laws::Refusal::denied, crate::proofs::Laws::Refusal::granted, crate::proofs::Laws::Refusal::nodes_above, crate::proofs::Laws::Refusal::nodes_bad, crate::proofs::Laws::Refusal::nodes_good, crate::proofs::Laws::Refusal::nodes_more))]
+#[tactic(auto, using(crate::proofs::Laws::Refusal::nodes_above, crate::proofs::Laws::Refusal::nodes_bad, crate::proofs::Laws::Refusal::nodes_good))]
 fn bad_nodes(t: &[Cell], used: u32) -> bool
     requires { length t.now ≤ 3145728 }
     ensures { result ≡ bad_nodes t.now used }
@@ -63,7 +63,7 @@ fn bad_nodes(t: &[Cell], used: u32) -> bool
 }
 
 // The first cause met of 9 and 13, or 0: the table, and an assignment buffer of this length.
-#[tactic(auto, using(crate::proofs::Laws::Refusal::met, crate::proofs::Laws::Refusal::unmet), unfolding(crate::specs::Refusal::buffers_refusal))]
+#[tactic(auto, unfolding(crate::specs::Refusal::buffers_refusal))]
 pub fn buffers_refusal(t: &[Cell], bytes: usize) -> u32
     ensures { result ≡ buffers_refusal (length t.now) bytes }
 {
@@ -77,7 +77,7 @@ pub fn buffers_refusal(t: &[Cell], bytes: usize) -> u32
 }
 
 // The first cause met of 12 and 16, or 0: the used nodes, and a diagram's number.
-#[tactic(auto, using(crate::proofs::Laws::Refusal::met, crate::proofs::Laws::Refusal::unmet, crate::proofs::Laws::Refusal::nodes_few), unfolding(crate::specs::Refusal::diagram_refusal))]
+#[tactic(auto, using(crate::proofs::Laws::Refusal::nodes_few), unfolding(crate::specs::Refusal::diagram_refusal))]
 pub fn diagram_refusal(t: &[Cell], used: u32, n: u32) -> u32
     requires { length t.now ≤ 3145728 }
     ensures { result ≡ diagram_refusal t.now used n }

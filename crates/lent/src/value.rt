@@ -17,7 +17,6 @@ pub enum Valued {
 }
 
 // Is every byte 0 or 1?
-#[tactic(auto, using(crate::proofs::Laws::Value::left_next, crate::proofs::Laws::Value::left_bad, crate::proofs::Laws::Value::left_none))]
 fn are_bits(a: &[u8]) -> bool
     ensures { result ≡ are_bits a.now }
 {
@@ -43,7 +42,7 @@ fn chosen(t: &[Cell], k: usize, byte: u8) -> u32
 }
 
 // From number n down to a terminal.
-#[tactic(auto, using(crate::proofs::Laws::Followed::followed_inside, crate::proofs::Laws::Value::step_less, crate::proofs::Laws::Value::way_start, crate::proofs::Laws::Value::way_next, crate::proofs::Laws::Value::way_level, crate::proofs::Laws::Value::way_count, crate::proofs::Laws::Value::way_done))]
+#[tactic(auto, using(crate::proofs::Laws::Followed::followed_inside, crate::proofs::Laws::Value::step_less, crate::proofs::Laws::Value::way_level))]
 fn walk(t: &[Cell], n: u32, a: &[u8]) -> Valued
     requires { Followed t.now n × (length a.now ≡ 128) }
     ensures { result ≡ told t.now n a.now }
@@ -61,7 +60,7 @@ fn walk(t: &[Cell], n: u32, a: &[u8]) -> Valued
 
 // The bit of diagram n under the assignment a, one byte a level, and the number of nodes passed; or the first cause met
 // of 9, 13, 14, 12, 16.
-#[tactic(auto, using(crate::proofs::Laws::Refusal::denied, crate::proofs::Laws::Refusal::granted, crate::proofs::Laws::Refusal::buffers_fit, crate::proofs::Laws::Followed::diagram_followed, crate::proofs::Laws::Value::value_buffers, crate::proofs::Laws::Value::value_bits, crate::proofs::Laws::Value::value_diagram, crate::proofs::Laws::Value::value_answered))]
+#[tactic(auto, using(crate::proofs::Laws::Refusal::buffers_fit, crate::proofs::Laws::Followed::diagram_followed, crate::proofs::Laws::Value::value_buffers, crate::proofs::Laws::Value::value_bits, crate::proofs::Laws::Value::value_diagram, crate::proofs::Laws::Value::value_answered))]
 pub fn value(t: &[Cell], used: u32, n: u32, a: &[u8]) -> Valued
     ensures { valued result ≡ value t.now used n a.now }
 {

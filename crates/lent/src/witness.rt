@@ -41,7 +41,7 @@ fn choose(t: &[Cell], l: u32, n: u32) -> Choice
 }
 
 // Level by level, a byte each.
-#[tactic(auto, using(crate::proofs::Laws::Followed::followed_inside, crate::proofs::Laws::Witness::filled_start, crate::proofs::Laws::Witness::filled_next, crate::proofs::Laws::Witness::filled_done))]
+#[tactic(auto, using(crate::proofs::Laws::Followed::followed_inside))]
 fn fill(t: &[Cell], n: u32, a: &mut [u8])
     requires { Followed t.now n × (length a.old ≡ 128) }
     ensures { a.new ≡ map digit (least 128 0 (tree_of t.now n)) }
@@ -57,7 +57,6 @@ fn fill(t: &[Cell], n: u32, a: &mut [u8])
 }
 
 // The least assignment that diagram n accepts, into a; or the first cause met of 9, 13, 12, 16, 15, and a is untouched.
-#[tactic(auto, using(crate::proofs::Laws::Refusal::buffers_fit, crate::proofs::Laws::Followed::diagram_followed, crate::proofs::Laws::Witness::witness_buffers, crate::proofs::Laws::Witness::witness_diagram, crate::proofs::Laws::Witness::witness_never, crate::proofs::Laws::Witness::witness_answered))]
 pub fn witness(t: &[Cell], used: u32, n: u32, a: &mut [u8]) -> Witnessed
     ensures { Witnesses t.now used n a.old result a.new }
 {

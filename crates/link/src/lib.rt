@@ -95,12 +95,7 @@ fn flat_witness(w: Witnessed) -> u32
 }
 
 // Solve a sheet at a limit.
-pub fn rule_solve(
-    sheet: &[u8],
-    limit: u32,
-    table: &mut [Cell],
-    work: &mut [u32],
-) -> Solved
+pub fn rule_solve(sheet: &[u8], limit: u32, table: &mut [Cell], work: &mut [u32]) -> Solved
     ensures { Solves (Solve.solve sheet.now limit (length table.old) (length work.old)) result
         table.old work.old table.new work.new }
 {
@@ -123,12 +118,7 @@ pub fn rule_value(table: &[Cell], used: u32, diagram: u32, assignment: &[u8]) ->
 }
 
 // The first assignment that a diagram accepts, one byte a level.
-pub fn rule_witness(
-    table: &[Cell],
-    used: u32,
-    diagram: u32,
-    assignment: &mut [u8],
-) -> u32
+pub fn rule_witness(table: &[Cell], used: u32, diagram: u32, assignment: &mut [u8]) -> u32
     ensures { Wrote table.now used diagram assignment.old result assignment.new }
 {
     flat_witness(witness::witness(table, used, diagram, assignment))

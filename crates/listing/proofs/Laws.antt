@@ -5,3 +5,4 @@ pub mod Value
 pub mod Entry
 pub mod Listing
 pub mod Answered
+pub mod Input

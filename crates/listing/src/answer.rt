@@ -9,7 +9,7 @@ use crate::lines::put_entries;
 use crate::text::{put_line, put_verdict};
 
 // a says the witness of must, one byte a level. The buffer is long enough for 256 lines of 40 bytes and the rest.
-#[tactic(auto, using(sheet::proofs::Laws::Check::checked_laid, crate::proofs::Laws::Listing::judged_written, crate::proofs::Laws::Listing::listed_refused, crate::proofs::Laws::Listing::listed_judged, crate::proofs::Laws::Listing::listed_sat))]
+#[tactic(auto, using(sheet::proofs::Laws::Check::checked_laid, crate::proofs::Laws::Listing::listed_refused))]
 pub fn listing(
     s: &[u8],
     number: u32,

@@ -10,7 +10,6 @@ use sheet::kind::VARIABLE;
 use sheet::read::{count, kind};
 
 // Entry i's line, if it is a variable.
-#[tactic(auto, using(crate::proofs::Laws::Entry::entry_none, crate::proofs::Laws::Entry::entry_some))]
 fn put_entry(s: &[u8], a: &[u8], out: &mut [u8], at: usize, i: usize) -> usize
     requires laid { Laid s.now × (i < count s.now) }
     requires at_in_bounds { at + 40 ≤ length out.old }
@@ -29,7 +28,7 @@ fn put_entry(s: &[u8], a: &[u8], out: &mut [u8], at: usize, i: usize) -> usize
 }
 
 // A line for each variable entry.
-#[tactic(auto, using(crate::proofs::Laws::Entry::going_begin, crate::proofs::Laws::Entry::going_more, crate::proofs::Laws::Entry::going_end))]
+#[tactic(auto, using(crate::proofs::Laws::Entry::going_end))]
 pub fn put_entries(s: &[u8], a: &[u8], out: &mut [u8], at: usize) -> usize
     requires laid { Laid s.now }
     requires at_in_bounds { at + 10240 ≤ length out.old }

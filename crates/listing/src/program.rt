@@ -19,7 +19,7 @@ fn must_witness(t: &[Cell], used: u32, must: u32) -> [u8; 128]
 }
 
 // The listing of an answer, t being the table that solve left.
-#[tactic(auto, using(crate::proofs::Laws::Answered::number_checked, crate::proofs::Laws::Answered::listing_unsat, crate::proofs::Laws::Answered::listing_solved))]
+#[tactic(auto, using(crate::proofs::Laws::Answered::number_checked))]
 fn list_answer(s: &[u8], t: &[Cell], a: Answer, out: &mut [u8; 16384]) -> usize
     requires { Answered s.now a t.now }
     ensures { (take result out.new ≡ listing s.now) × (result ≤ length out.new) }
@@ -40,7 +40,6 @@ fn list_answer(s: &[u8], t: &[Cell], a: Answer, out: &mut [u8; 16384]) -> usize
 }
 
 // The listing of any bytes.
-#[tactic(auto, using(crate::proofs::Laws::Answered::meets_answered))]
 pub fn listing(s: &[u8], out: &mut [u8; 16384]) -> usize
     ensures { (take result out.new ≡ listing s.now) × (result ≤ length out.new) }
 {

@@ -3,7 +3,6 @@ ghost use Rattle.std.specs.Prelude.{◌≡◌, ◌+◌, ◌%◌, ◌≤◌, ◌<
 ghost use Rattle.listing.specs.Written.{Written, digits, number_line, verdict_line};
 
 // Some bytes.
-#[tactic(auto, using(crate::proofs::Laws::Written::copy_begin, crate::proofs::Laws::Written::copy_more, crate::proofs::Laws::Written::copy_end))]
 pub fn put(out: &mut [u8], at: usize, text: &[u8]) -> usize
     requires { at + length text.now ≤ length out.old }
     ensures { Written out.old at out.new result text.now }
@@ -24,7 +23,6 @@ fn last_digit(n: u32) -> u8
 }
 
 // A number in decimal, with no zeros in front: its digits from the last one on, then copied.
-#[tactic(auto, using(crate::proofs::Laws::Written::written_as, crate::proofs::Laws::Decimal::cut_begin, crate::proofs::Laws::Decimal::cut_more, crate::proofs::Laws::Decimal::cut_end, crate::proofs::Laws::Decimal::digits_length))]
 pub fn put_decimal(out: &mut [u8], at: usize, n: u32) -> usize
     requires { at + 10 ≤ length out.old }
     ensures { Written out.old at out.new result (digits n) × (result ≤ at + 10) }
@@ -43,7 +41,6 @@ pub fn put_decimal(out: &mut [u8], at: usize, n: u32) -> usize
 }
 
 // A word with its space, a number, the end of the line.
-#[tactic(auto, using(crate::proofs::Laws::Listing::line_written))]
 pub fn put_line(out: &mut [u8], at: usize, word: &[u8], n: u32) -> usize
     requires { at + length word.now + 11 ≤ length out.old }
     ensures { Written out.old at out.new result (number_line word.now n) ×

@@ -1,7 +1,7 @@
 -- SMT-LIB's fixed-size bit-vectors, as plain numbers: a vector of width w is a number below 2^w. No diagram here.
 --
 -- Departures that 01 lists: a shift amount is first reduced modulo the width.
-use Rattle.std.specs.Prelude.{ℕ, zero, suc, ◌+◌, ◌-◌, ◌*◌, ◌/◌, ◌%◌, ◌^◌, Bool, true, false, cond, not, ◌&&◌, ◌||◌, List, [], ◌∷◌, eqb, leb}
+use Rattle.std.specs.Prelude.{ℕ, ◌+◌, ◌-◌, ◌*◌, ◌/◌, ◌%◌, ◌^◌, Bool, cond, not, ◌&&◌, ◌||◌, List, [], ◌∷◌, leb}
 use Rattle.std.specs.Bool.{beq}
 use Rattle.meaning.specs.Number.{bits, number}
 

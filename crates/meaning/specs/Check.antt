@@ -1,7 +1,7 @@
 -- The check of a sheet: the first refusal among 1 to 8, or 0.
 --
 --   check s   1, 2, 3 each over the whole sheet, then 4, 5, 6 entry by entry, then 7, then 8
-use Rattle.std.specs.Prelude.{ℕ, zero, suc, ◌+◌, ◌-◌, ◌*◌, ◌^◌, Bool, true, false, cond, not, ◌&&◌, ◌||◌, List, [], ◌∷◌, eqb, ltb, leb, length}
+use Rattle.std.specs.Prelude.{ℕ, zero, suc, ◌+◌, ◌-◌, ◌^◌, Bool, true, false, cond, not, ◌&&◌, ◌||◌, List, [], ◌∷◌, eqb, ltb, leb, length}
 use Rattle.meaning.specs.Kind.{Sort, Operand, a_term, a_formula, a_variable, Widths, any, below, sum, span, none_wider, alike}
 use Rattle.meaning.specs.Sheet.{Entry, entry, entries, count, record_at, rule_at, width_at, place, operand, constant_of, upper, lower}
 use Rattle.meaning.specs.Level.{levels}

@@ -2,9 +2,8 @@
 --
 -- n is the number of levels. An unknown bit is read so that must errs to false and may to true.
 use Rattle.std.specs.Prelude.{ℕ, Bool, true, false, cond, not, ◌&&◌, List, [], ◌∷◌}
-use Rattle.std.specs.Bool.{beq}
 use Rattle.meaning.specs.Diagram.{Tree, leaf}
-use Rattle.meaning.specs.Step.{Work, done, ◌>>=◌, step, quantify, is_not, is_and, is_or, agree, less_or_equal, signed_top, Function, unused}
+use Rattle.meaning.specs.Step.{Work, done, ◌>>=◌, step, quantify, is_not, is_and, agree, less_or_equal, signed_top, Function, unused}
 use Rattle.meaning.specs.Row.{Bit, known, unknown, Row}
 
 pub record Pair : Type 0 where

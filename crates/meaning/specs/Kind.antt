@@ -2,7 +2,7 @@
 --
 --   rules      01's table of kinds, a row each
 --   rule_of k   the row of kind number k, or `absent`'s row where the table has none
-use Rattle.std.specs.Prelude.{ℕ, zero, cond, List, [], ◌∷◌, eqb}
+use Rattle.std.specs.Prelude.{ℕ, cond, List, [], ◌∷◌, eqb}
 
 -- what an entry is: terms, then formulas; `absent` stands for a number that is no kind's
 pub data Kind : Type 0 where

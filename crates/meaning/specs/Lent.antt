@@ -3,7 +3,7 @@
 --   node_at t k      slot k of the lent table t
 --   bad_nodes        refusal 12's cause
 --   tree_of t n      the diagram of number n, where every used node is sound
-use Rattle.std.specs.Prelude.{ℕ, zero, suc, ◌+◌, ◌-◌, ◌*◌, Bool, true, false, cond, not, ◌&&◌, ◌||◌, List, [], ◌∷◌, eqb, ltb, leb, length, get_or}
+use Rattle.std.specs.Prelude.{ℕ, zero, suc, ◌+◌, ◌-◌, ◌*◌, Bool, true, cond, not, ◌&&◌, ◌||◌, List, eqb, ltb, length, get_or}
 use Rattle.meaning.specs.Check.{max_levels}
 use Rattle.meaning.specs.Diagram.{Tree, leaf, node}
 use Rattle.meaning.specs.Table.{Node, slot, cells}

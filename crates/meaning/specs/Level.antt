@@ -4,7 +4,7 @@
 --   level es i b   the level of bit b of variable entry i
 --   levels es      how many levels there are
 --   value_of es ρ i the value of variable entry i where ρ says each level's bit
-use Rattle.std.specs.Prelude.{ℕ, zero, suc, ◌+◌, Bool, cond, ◌&&◌, List, [], ◌∷◌, ◌++◌, eqb, ltb, length}
+use Rattle.std.specs.Prelude.{ℕ, zero, suc, Bool, cond, ◌&&◌, List, [], ◌∷◌, ◌++◌, eqb, ltb, length}
 use Rattle.meaning.specs.Number.{number, up_to}
 use Rattle.meaning.specs.Kind.{Sort}
 use Rattle.meaning.specs.Sheet.{Entry, entry}

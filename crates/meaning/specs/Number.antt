@@ -4,7 +4,7 @@
 --   bits w x       the lowest w bits of x
 --   number bits    the number whose bits these are
 --   up_to f n       f 0, f 1, ... f (n - 1)
-use Rattle.std.specs.Prelude.{ℕ, zero, suc, ◌+◌, ◌*◌, ◌/◌, ◌%◌, Bool, true, false, cond, List, [], ◌∷◌, eqb}
+use Rattle.std.specs.Prelude.{ℕ, zero, suc, ◌+◌, ◌*◌, ◌/◌, ◌%◌, Bool, true, false, List, [], ◌∷◌, eqb}
 
 abbrev pub little : List ℕ → ℕ
 little [] = 0

@@ -1,7 +1,7 @@
 -- Rows: a term's value at a limit, a place a bit, each a diagram or the unknown mark. One definition an operation.
 --
 -- n is the number of levels, L the limit. Bits are listed from bit 0 on; a row's length is its width.
-use Rattle.std.specs.Prelude.{ℕ, zero, suc, ◌+◌, ◌-◌, ◌%◌, Bool, true, false, cond, not, ◌&&◌, List, [], ◌∷◌, ◌++◌, map, ltb, length, take, drop, replicate}
+use Rattle.std.specs.Prelude.{ℕ, suc, ◌+◌, ◌-◌, Bool, true, false, cond, List, [], ◌∷◌, ◌++◌, map, ltb, length, take, drop, replicate}
 use Rattle.meaning.specs.Number.{bits}
 use Rattle.meaning.specs.Diagram.{Tree, leaf, node, same}
 use Rattle.meaning.specs.Table.{count}

@@ -2,7 +2,7 @@
 --
 --   work_of kind es n L before e   the value of entry e and its steps, from the values before it
 --   run es L                      the values of all entries, and all steps
-use Rattle.std.specs.Prelude.{ℕ, zero, suc, ◌-◌, Bool, true, false, ◌&&◌, ◌||◌, List, [], ◌∷◌, ◌++◌, map, length, get_or}
+use Rattle.std.specs.Prelude.{ℕ, zero, suc, ◌-◌, true, false, ◌&&◌, ◌||◌, List, [], ◌∷◌, ◌++◌, length, get_or}
 use Rattle.meaning.specs.Number.{up_to}
 use Rattle.meaning.specs.Kind.{Kind}
 use Rattle.meaning.specs.Sheet.{Entry, entry, operand, constant_of, amount, upper, lower}

@@ -4,9 +4,9 @@
 --   place s i    where entry i's body is said to begin
 --   entries s    the entries in order, each with its row of the kind table, its width and its body
 --   operand e k  the k-th operand of e, an entry number
-use Rattle.std.specs.Prelude.{ℕ, zero, suc, ◌+◌, ◌-◌, ◌*◌, List, [], ◌∷◌, length, get_or, take, drop}
-use Rattle.meaning.specs.Number.{little, each, up_to}
-use Rattle.meaning.specs.Kind.{Rule, Operand, rule_of, no_rule}
+use Rattle.std.specs.Prelude.{ℕ, ◌+◌, ◌*◌, List, [], length, get_or, take, drop}
+use Rattle.meaning.specs.Number.{little, up_to}
+use Rattle.meaning.specs.Kind.{Rule, rule_of, no_rule}
 
 pub record Entry : Type 0 where
   pub rule : Rule

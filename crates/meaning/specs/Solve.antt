@@ -3,10 +3,9 @@
 --   solve s L table work   the answer at limit L; `table` and `work` are the buffers' lengths in numbers
 --   unnamed_limit slots     the limit where none is named
 --   after left before      what stands in a buffer that held `before`
-use Rattle.std.specs.Prelude.{ℕ, zero, suc, ◌+◌, ◌-◌, ◌*◌, ◌/◌, ◌%◌, Bool, true, false, cond, not, ◌||◌, List, [], ◌∷◌, ◌++◌, eqb, ltb, length, replicate}
+use Rattle.std.specs.Prelude.{ℕ, ◌-◌, ◌*◌, ◌/◌, ◌%◌, Bool, cond, not, ◌||◌, List, [], ◌++◌, eqb, ltb, length, replicate}
 use Rattle.meaning.specs.Sheet.{Entry, entries}
 use Rattle.meaning.specs.Check.{refuse, first, check}
-use Rattle.meaning.specs.Diagram.{Tree}
 use Rattle.meaning.specs.Table.{Table, enter, enter_all, cells, lay_all}
 use Rattle.meaning.specs.Formula.{Pair}
 use Rattle.meaning.specs.Run.{run, last_pair}

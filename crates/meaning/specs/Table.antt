@@ -3,7 +3,7 @@
 --   enter t s     diagram t enters table s: its number, and the table afterwards
 --   enter_all ts s some diagrams enter, one after the other
 --   count ts      the distinct nodes of some diagrams
-use Rattle.std.specs.Prelude.{ℕ, zero, suc, ◌+◌, ◌*◌, Bool, true, false, cond, ◌&&◌, List, [], ◌∷◌, ◌++◌, eqb, length}
+use Rattle.std.specs.Prelude.{ℕ, suc, ◌+◌, Bool, cond, ◌&&◌, List, [], ◌∷◌, ◌++◌, eqb, length}
 use Rattle.meaning.specs.Number.{digit}
 use Rattle.meaning.specs.Diagram.{Tree, leaf, node}
 

@@ -1,7 +1,7 @@
 -- Value: a diagram's truth under an assignment, and how many nodes are passed on the way.
 --
 --   value t used n a   t the lent table, n the diagram's number, a the assignment's bytes, one a level
-use Rattle.std.specs.Prelude.{ℕ, zero, suc, ◌+◌, Bool, true, false, cond, not, ◌&&◌, List, [], ◌∷◌, eqb, ltb, leb, length, get_or}
+use Rattle.std.specs.Prelude.{ℕ, suc, ◌+◌, Bool, true, cond, not, ◌&&◌, List, [], ◌∷◌, eqb, ltb, length, get_or}
 use Rattle.meaning.specs.Number.{digit}
 use Rattle.meaning.specs.Check.{refuse, max_levels}
 use Rattle.meaning.specs.Diagram.{Tree, leaf, node, Assignment, holds}

@@ -2,7 +2,7 @@
 --
 --   least n l t              the bits of levels l, l + 1, ... n of them, in the least assignment that t accepts
 --   witness t used n length  t the lent table, n the diagram's number, `length` the assignment buffer's
-use Rattle.std.specs.Prelude.{ℕ, zero, suc, ◌+◌, Bool, true, false, cond, not, List, [], ◌∷◌, map, eqb, ltb, length}
+use Rattle.std.specs.Prelude.{ℕ, zero, suc, ◌+◌, Bool, false, cond, not, List, [], ◌∷◌, map, eqb, ltb, length}
 use Rattle.meaning.specs.Number.{digit}
 use Rattle.meaning.specs.Check.{refuse, max_levels}
 use Rattle.meaning.specs.Diagram.{Tree, leaf, node, same}

@@ -17,7 +17,7 @@ use mathlib.Core.List.{List, []}
 use lib.ListN.{length}
 use Rattle.meaning.specs.Sheet.{entries}
 use Rattle.meaning.specs.Level.{value_of}
-use Rattle.meaning.specs.Diagram.{Tree, Assignment, holds}
+use Rattle.meaning.specs.Diagram.{Assignment, holds}
 use Rattle.meaning.specs.Meaning.{Values, Within, Satisfiable}
 use Rattle.meaning.specs.Lent.{tree_of}
 use Rattle.meaning.specs.Solve as Solve

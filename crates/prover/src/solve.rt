@@ -16,7 +16,7 @@ use term::row::Row;
 
 // The value of operand k of entry i, whose body this is and which has so many operands; nothing where there is no such
 // operand.
-#[tactic(auto, using(crate::proofs::Laws::Operand::none_read, crate::proofs::Laws::Operand::operand_inside, crate::proofs::Laws::Operand::width_inside, crate::proofs::Laws::Operand::value_inside, crate::proofs::Laws::Operand::operand_read))]
+#[tactic(auto, using(crate::proofs::Laws::Operand::width_inside, crate::proofs::Laws::Operand::value_inside))]
 fn operand(s: &[u8], kept: &[u32], i: usize, body: &[u8], many: usize, k: usize) -> Row
     requires reaches { Reaches s.now kept.now i }
     requires opened { Opened s.now i body.now many }
@@ -34,7 +34,7 @@ fn operand(s: &[u8], kept: &[u32], i: usize, body: &[u8], many: usize, k: usize)
 }
 
 // Kind and body are read once an entry.
-#[tactic(auto, using(crate::proofs::Laws::Operand::entry_inside, crate::proofs::Laws::Operand::part_inside, crate::proofs::Laws::Operand::opened))]
+#[tactic(auto, using(crate::proofs::Laws::Operand::part_inside, crate::proofs::Laws::Operand::opened))]
 fn operands(s: &[u8], kept: &[u32], i: usize) -> Operands
     requires { Reaches s.now kept.now i }
     ensures { OperandReads s.now kept.now i 0 result.x ×
@@ -128,7 +128,7 @@ fn refusal(s: &[u8], t: &[Cell], work: &[u32]) -> u32
 }
 
 // The answer after a run: 11 and a table of zeros, or the numbers, and zeros behind the nodes.
-#[tactic(auto, using(crate::proofs::Laws::Answer::meets_full, crate::proofs::Laws::Answer::meets_free))]
+#[tactic(auto, using(crate::proofs::Laws::Answer::meets_free))]
 fn finish(t: &mut [Cell], end: Outcome) -> Answer
     requires { Roomy t.old end.at }
     ensures { Finishes t.old end.at end.must end.may result t.new }
@@ -150,7 +150,7 @@ fn finish(t: &mut [Cell], end: Outcome) -> Answer
 }
 
 // Solve at a limit, for any bytes and any buffers.
-#[tactic(auto, using(crate::proofs::Laws::Answer::input_passes, crate::proofs::Laws::Answer::meets_refused, crate::proofs::Laws::Answer::meets_worked))]
+#[tactic(auto, using(crate::proofs::Laws::Answer::input_passes, crate::proofs::Laws::Answer::meets_refused))]
 pub fn solve(s: &[u8], limit: u32, t: &mut [Cell], work: &mut [u32]) -> Answer
     ensures { Meets (solve s.now limit (length t.old) (length work.old)) result
         t.old work.old t.new work.new }
@@ -173,7 +173,6 @@ pub fn unnamed_limit(slots: usize) -> u32
 }
 
 // Solve without a named limit.
-#[tactic(auto, using(crate::proofs::Laws::Answer::meets_unnamed))]
 pub fn solve_unnamed(s: &[u8], t: &mut [Cell], work: &mut [u32]) -> Answer
     ensures { Meets (solve_unnamed s.now (length t.old) (length work.old)) result
         t.old work.old t.new work.new }

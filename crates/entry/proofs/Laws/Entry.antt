@@ -12,7 +12,7 @@ use mathlib.Core.List.{List, [], ◌∷◌, append-nil}
 use lib.Dec.{eqb, leb}
 use lib.ListN.{length}
 use borrow.Author.Tests.{eqb-true, leb-true}
-use Rattle.meaning.specs.Kind.{Sort, Operand, a_term, a_formula, Widths, Rule, rule, rules, rule_of, row_of, alike}
+use Rattle.meaning.specs.Kind.{Sort, Operand, a_term, a_formula, Widths, Rule, rules, rule_of, row_of, alike}
 use Rattle.meaning.specs.Kind.{one_term, two_terms, one_formula, two_formulas, formula_two_terms, variable_formula}
 use Rattle.meaning.specs.Sheet.{entry, entries, entry_at, count, rule_at, width_at, body, operand}
 use Rattle.meaning.specs.Level.{levels}
@@ -35,7 +35,6 @@ use Rattle.sheet.proofs.Laws.Sheet.{entry_at_lem}
 use Rattle.term.specs.Row.{RowMeans, RowKnown, Makes}
 use Rattle.term.specs.declared.row.Row as Declared
 use Rattle.formula.specs.Pair.{PairMeans, PairKnown, Judges}
-use Rattle.formula.specs.declared.pair.Pair as Pair
 use Rattle.entry.specs.Value.{PairIn, Held, Meant, OperandHeld, OperandMeant, Enters}
 use Rattle.entry.specs.Entry.{number_at, Given, pair_in}
 use Rattle.entry.specs.declared.value.Operands as Declared-operands

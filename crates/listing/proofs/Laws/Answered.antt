@@ -18,7 +18,7 @@ use Rattle.meaning.specs.Witness.{witness}
 use Rattle.meaning.specs.Program.{listed, listing, program, must_witness}
 use Rattle.meaning.proofs.Laws.Solve.{solve_answer}
 use Rattle.meaning.proofs.Demands.{table_one}
-use Rattle.prover.specs.Answer.{Numbers, answer_of, numbers_of, Meets}
+use Rattle.prover.specs.Answer.{Numbers, numbers_of, Meets}
 use Rattle.prover.specs.declared.answer.Answer.{Answer}
 use Rattle.listing.specs.Answered.{solved_here, Answered, WitnessBytes}
 

@@ -10,7 +10,7 @@ use Rattle.meaning.specs.Sheet.{Entry, count, rule_at, entries}
 use Rattle.meaning.specs.Level.{value_of}
 use Rattle.meaning.specs.Diagram.{Assignment}
 use Rattle.meaning.specs.Value.{assignment}
-use Rattle.meaning.specs.Program.{text, line, entry_line, entry_lines}
+use Rattle.meaning.specs.Program.{text, entry_line, entry_lines}
 use Rattle.sheet.specs.Kind.{codes_of, sort_code}
 use Rattle.sheet.specs.declared.kind.Kind.{Kind}
 use Rattle.sheet.proofs.Laws.Kind.{codes_sort}

@@ -5,7 +5,7 @@ use mathlib.Core.Path.{◌≡◌, refl}
 use mathlib.Core.List.{List, [], ◌∷◌, ◌++◌}
 use lib.ListN.{replicate}
 use Rattle.meaning.specs.Program.{text}
-use Rattle.meaning.proofs.Cases.Asked.{Part, sheet, var, con, part, op₀, op₁, op₂, op₃, two, Case, solved, tabled, cleared, printed, answers, wanteds, at, at_slots, sat, unsat, refused}
+use Rattle.meaning.proofs.Cases.Asked.{Part, sheet, var, con, part, op₀, op₁, op₂, op₃, two, Case, solved, tabled, cleared, printed, answers, wanteds, at, at_slots, sat, refused}
 use Rattle.meaning.proofs.Cases.Starred.{A}
 
 -- a sheet with no diagram: what is wanted is a refusal, or "true"

@@ -3,7 +3,7 @@
 use Prim.Native.Nat.{ℕ}
 use mathlib.Core.Path.{◌≡◌, refl}
 use mathlib.Core.List.{List, [], ◌∷◌, ◌++◌}
-use Rattle.meaning.proofs.Cases.Asked.{sheet, var, con, part, op₀, op₁, op₂, op₃, two, Case, answers, wanteds, at, at_slots, sat, unsat, unknown, refused}
+use Rattle.meaning.proofs.Cases.Asked.{sheet, var, con, part, op₀, op₁, op₂, op₃, two, Case, answers, wanteds, at, at_slots, sat, unknown, refused}
 
 -- unknown bits: not below, shared sum bits, width 3
 abbrev not_below : List ℕ

@@ -1,7 +1,7 @@
 -- With a limit not below the table's length nothing is cut: every bit of every term is known, and must is may.
 --
 -- Main result: run_exact.
-use Prim.Native.Nat.{ℕ, zero, suc, ◌+◌, ◌-◌, ◌%◌, ◌^◌, ◌≤◌, ◌<◌}
+use Prim.Native.Nat.{ℕ, suc, ◌≤◌, ◌<◌}
 use native.Mathlib.Omega.{arith}
 use native.Mathlib.Nat.{le_refl, not-suc-le-zero}
 use mathlib.Core.Path.{◌≡◌, refl, sym, ap, subst, ◌∙◌}
@@ -11,7 +11,7 @@ use lib.Dec.{ltb}
 use lib.ListN.{length, get_or, drop, length-drop}
 use borrow.Author.Tests.{ltb-true, ltb-false}
 use Rattle.meaning.specs.Number.{little, up_to}
-use Rattle.meaning.specs.Kind.{Kind, Sort, Rule, a_term, a_formula}
+use Rattle.meaning.specs.Kind.{Sort, Rule, a_term, a_formula}
 use Rattle.meaning.specs.Sheet.{Entry, entry, pair_at}
 use Rattle.meaning.specs.Level.{levels}
 use Rattle.meaning.specs.Check.{suits}
@@ -20,9 +20,9 @@ use Rattle.meaning.specs.Diagram.{Tree}
 use Rattle.meaning.specs.Table.{Table}
 use Rattle.meaning.specs.Step.{is_and, is_or}
 use Rattle.meaning.specs.Row
-use Rattle.meaning.specs.Formula.{Pair, sure}
+use Rattle.meaning.specs.Formula.{sure}
 use Rattle.meaning.specs.Meaning.{Meaning, meaning_of}
-use Rattle.meaning.specs.Run.{Value, row, row_of, pair_of, value_at, variable, variable_from, variable_bit, work_of, run_from, run, levels_of}
+use Rattle.meaning.specs.Run.{Value, row, row_of, pair_of, value_at, variable, variable_from, variable_bit, work_of, run_from, run}
 use Rattle.meaning.proofs.Laws.Table.{Single, There}
 use Rattle.meaning.proofs.Laws.Checked.{Sound, Checked, RowOf, is_variable, is_constant, is_bit_not, is_negate, is_bit_and, is_bit_or, is_bit_xor, is_add, is_multiply, is_shift_left, is_shift_right, is_concat, is_extract, is_zero_extend, is_sign_extend, is_choose, is_true, is_false, is_equal, is_unsigned, is_signed, is_formula_not, is_formula_and, is_formula_or, is_exists, is_forall, is_absent}
 use Rattle.meaning.proofs.Laws.Checked.{sound_row, sound_operands}
@@ -33,7 +33,7 @@ use Rattle.meaning.proofs.Laws.Formula as Formulas
 use Rattle.meaning.proofs.Laws.Order as Order
 use Rattle.meaning.proofs.Laws.Uncut as Uncut
 use Rattle.meaning.proofs.Laws.Related.{low_length}
-use Rattle.meaning.proofs.Laws.Run.{SoFar, InStep, term_at, term_wide, work_related, so_on, next_inside, next_is, next_rest, longer, old_at, new_at}
+use Rattle.meaning.proofs.Laws.Run.{SoFar, term_at, term_wide, work_related, so_on, next_inside, next_is, next_rest, longer, old_at, new_at}
 
 -- every bit is known; must is may
 abbrev pub Exact : Sort → Value → Type 0

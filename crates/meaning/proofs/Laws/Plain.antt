@@ -1,8 +1,8 @@
 -- The operations on plain bits: what each operation on rows does where every bit is known. Lists of bits, bit 0 first.
 --
 -- Between the rows (diagrams, unknown marks) and the numbers: rows are shown to fit these, and these to be SMT-LIB's numbers.
-use Prim.Native.Nat.{ℕ, zero, suc, ◌+◌, ◌-◌}
-use mathlib.Core.Bool.{Bool, true, false, cond, not, ◌&&◌, ◌||◌, beq}
+use Prim.Native.Nat.{ℕ, suc, ◌+◌, ◌-◌}
+use mathlib.Core.Bool.{Bool, false, cond, not, ◌&&◌, ◌||◌, beq}
 use mathlib.Core.List.{List, [], ◌∷◌, ◌++◌, map}
 use lib.ListN.{length, take, drop, replicate}
 use Rattle.meaning.specs.Number.{bits}

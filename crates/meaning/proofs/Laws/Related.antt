@@ -6,16 +6,15 @@
 -- One law an operation, for all widths.
 use Prim.Native.Nat.{ℕ, zero, suc, ◌+◌, ◌-◌, ◌^◌, ◌≤◌, ◌<◌}
 use native.Mathlib.Omega.{arith}
-use native.Mathlib.Nat.{le_of_lt, mod-lt}
 use mathlib.Core.Path.{◌≡◌, refl, sym, ap, ap₂, subst, ◌∙◌}
 use mathlib.Core.Bool.{Bool, true, false, cond, not, ◌&&◌, ◌||◌}
-use mathlib.Core.List.{List, [], ◌∷◌, ◌++◌}
+use mathlib.Core.List.{List}
 use lib.Dec.{eqb, leb}
 use lib.ListN.{length}
 use Rattle.meaning.specs.Number.{bits, each}
 use Rattle.meaning.specs.Sheet.{Entry, entry}
 use Rattle.meaning.specs.Level.{value_of, level, levels, variable_bits}
-use Rattle.meaning.specs.Diagram.{Tree, leaf, Assignment, holds}
+use Rattle.meaning.specs.Diagram.{leaf, Assignment}
 use Rattle.meaning.specs.Meaning.{Values, bind, some, every}
 use Rattle.meaning.specs.BitVector
 use Rattle.meaning.specs.Step.{is_and, is_or}
@@ -25,7 +24,6 @@ use Rattle.meaning.specs.Formula
 use Rattle.meaning.specs.Formula.{Pair, pair}
 use Rattle.meaning.specs.Run.{levels_of, variable, variable_from, variable_bit}
 use Rattle.meaning.proofs.Laws.Fits.{Fits, bit, any, Below, keep, more, Encloses, Wider}
-use Rattle.meaning.proofs.Laws.Plain
 use Rattle.meaning.proofs.Laws.Number.{bits_length}
 use Rattle.meaning.proofs.Laws.BitVector as Number
 use Rattle.meaning.proofs.Laws.Row as Rows

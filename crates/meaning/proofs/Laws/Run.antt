@@ -1,23 +1,23 @@
 -- The whole sheet: every entry's value at a lower limit, its value at a higher one and its meaning are in step.
 --
 -- Main result: run_related, one induction over the entries of a checked sheet.
-use Prim.Native.Nat.{ℕ, zero, suc, ◌+◌, ◌-◌, ◌%◌, ◌^◌, ◌≤◌, ◌<◌}
+use Prim.Native.Nat.{ℕ, suc, ◌+◌, ◌-◌, ◌≤◌, ◌<◌}
 use native.Mathlib.Omega.{arith}
 use native.Mathlib.Nat.{mod-lt, le_of_lt, add-zero, not-suc-le-zero}
 use native.Mathlib.Numerals.{add-one}
 use mathlib.Core.Path.{◌≡◌, refl, sym, ap, subst, ◌∙◌}
-use mathlib.Core.Bool.{Bool, true, false, cond, not, ◌&&◌, ◌||◌, and-eq-true_iff, false≢true}
+use mathlib.Core.Bool.{Bool, true, false, ◌&&◌, ◌||◌, and-eq-true_iff, false≢true}
 use mathlib.Core.List.{List, [], ◌∷◌, ◌++◌}
 use lib.Dec.{eqb, ltb, leb}
 use lib.ListN.{length, get_or, drop, length-append, length-drop, get_or-append}
 use lib.Seq.{get_or-append_seam, get_or-drop, drop-drop}
 use borrow.Author.Tests.{eqb-true, leb-true, ltb-true, ltb-false}
-use Rattle.meaning.specs.Kind.{Kind, Sort, Rule, Operand, a_term, a_formula, a_variable, Widths, no_rule, two_terms}
+use Rattle.meaning.specs.Kind.{Sort, Rule, a_term, a_formula, a_variable, no_rule, two_terms}
 use Rattle.meaning.specs.Sheet.{Entry, entry, no_entry, operand, pair_at, upper, lower}
-use Rattle.meaning.specs.Level.{levels, variable_bits, bits_of}
+use Rattle.meaning.specs.Level.{levels, variable_bits}
 use Rattle.meaning.specs.Check.{suits, allowed, width_of, own_width}
 use Rattle.meaning.specs.BitVector.{shift_by}
-use Rattle.meaning.specs.Meaning.{Meaning, Sense, truth, number_of, truth_of, meaning_at, meaning_of, meanings_from, meanings, some, every}
+use Rattle.meaning.specs.Meaning.{Meaning, truth, number_of, truth_of, meaning_at, meaning_of, meanings_from, meanings, some, every}
 use Rattle.meaning.specs.Run.{Value, row, row_of, pair_of, value_at, work_of, run_from, run}
 use Rattle.meaning.proofs.Laws.Checked.{Sound, Checked, RowOf, is_variable, is_constant, is_bit_not, is_negate, is_bit_and, is_bit_or, is_bit_xor, is_add, is_multiply, is_shift_left, is_shift_right, is_concat, is_extract, is_zero_extend, is_sign_extend, is_choose, is_true, is_false, is_equal, is_unsigned, is_signed, is_formula_not, is_formula_and, is_formula_or, is_exists, is_forall, is_absent}
 use Rattle.meaning.proofs.Laws.Checked.{Operands, sound_row, sound_operands, checked_wide, suits_bits}

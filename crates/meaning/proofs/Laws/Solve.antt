@@ -1,15 +1,15 @@
 -- The answer of solve: its numbers stand for the diagrams of the sheet's formula, read off the table that it leaves.
 --
 --   mustTree a, mayTree a   the diagrams of an answer
-use Prim.Native.Nat.{ℕ, zero, suc, ◌+◌, ◌-◌, ◌*◌, ◌/◌, ◌%◌, ◌≤◌, ◌<◌}
+use Prim.Native.Nat.{ℕ, ◌+◌, ◌-◌, ◌*◌, ◌≤◌, ◌<◌}
 use native.Mathlib.Omega.{arith}
 use native.Mathlib.Nat.{add-zero, zero-add, div-mul-le_self}
-use mathlib.Core.Path.{◌≡◌, refl, sym, ap, subst, ◌∙◌}
-use mathlib.Core.Bool.{Bool, true, false, cond, not, false≢true, true≢false}
+use mathlib.Core.Path.{◌≡◌, refl, sym, ap, ◌∙◌}
+use mathlib.Core.Bool.{Bool, true, false}
 use mathlib.Core.List.{List, [], ◌∷◌, ◌++◌}
 use lib.Dec.{eqb, ltb}
 use lib.ListN.{length, replicate, length-append, length-replicate}
-use borrow.Author.Tests.{eqb-true, eqb-false, eq-eqb, ne_eqb, ltb-true, ltb-false, le-ltb}
+use borrow.Author.Tests.{eqb-true, eqb-false, eq-eqb, ne_eqb, ltb-false, le-ltb}
 use Rattle.meaning.specs.Sheet.{Entry, entry, entries}
 use Rattle.meaning.specs.Level.{levels}
 use Rattle.meaning.specs.Meaning.{meaning_at, meanings, formula}
@@ -20,8 +20,8 @@ use Rattle.meaning.specs.Formula.{Pair}
 use Rattle.meaning.specs.Run.{Value, row, truth, pair_of, value_at, work_of, run_from, run, last_pair}
 use Rattle.meaning.specs.Lent.{tree_of, bad_nodes}
 use Rattle.meaning.specs.Witness.{witness, witness_refusal}
-use Rattle.meaning.specs.Solve.{Solved, after, solve, worked, input_refusal, no_room, answered, refused, slots, verdict_of, bad_table, work_needed}
-use Rattle.meaning.proofs.Laws.Table.{Is, Single, Falls, LevelsBelow, There, is_ext, enter_is, enter_again, enter_all_ext, enter_all_single, enter_all_falls, enter_all_levels}
+use Rattle.meaning.specs.Solve.{Solved, after, solve, worked, input_refusal, answered, slots, verdict_of, bad_table, work_needed}
+use Rattle.meaning.proofs.Laws.Table.{Is, Single, Falls, LevelsBelow, There, enter_again, enter_all_single, enter_all_falls, enter_all_levels}
 use Rattle.meaning.proofs.Laws.Lent.{tree_of_is, lay_length, sound_falls}
 use Rattle.meaning.proofs.Laws.Witness.{witness_number}
 use Rattle.meaning.proofs.Laws.Checked.{Checked, check_checked}

@@ -1,18 +1,17 @@
 -- What an answer's diagrams and verdict say of the sheet's formula: the parts of the user's third demand, proved.
-use Prim.Native.Nat.{ℕ, zero, suc, ◌≤◌, ◌<◌}
+use Prim.Native.Nat.{ℕ, ◌≤◌}
 use native.Mathlib.Omega.{arith}
 use native.Mathlib.Nat.{le_refl}
 use mathlib.Core.Path.{◌≡◌, refl, sym, ap, subst, ◌∙◌}
-use mathlib.Core.Bool.{Bool, true, false, cond, not, false≢true, true≢false}
-use mathlib.Core.List.{List, [], ◌∷◌}
+use mathlib.Core.Bool.{Bool, true, false, false≢true}
+use mathlib.Core.List.{List, []}
 use lib.Dec.{eqb}
-use lib.ListN.{length}
-use borrow.Author.Tests.{eqb-true, eqb-false, eq-eqb, ne_eqb}
+use borrow.Author.Tests.{eqb-true, ne_eqb}
 use Rattle.meaning.specs.Sheet.{entries}
 use Rattle.meaning.specs.Level.{levels, value_of}
 use Rattle.meaning.specs.Diagram.{Tree, leaf, Assignment, holds, same}
-use Rattle.meaning.specs.Meaning.{Values, Satisfiable, Within, formula}
-use Rattle.meaning.specs.Solve.{Solved, solve, after, slots, verdict_of}
+use Rattle.meaning.specs.Meaning.{Satisfiable, formula}
+use Rattle.meaning.specs.Solve.{solve, after, slots, verdict_of}
 use Rattle.meaning.proofs.Laws.Shape.{Good}
 use Rattle.meaning.proofs.Laws.Diagram.{somewhere, nowhere, same_eq}
 use Rattle.meaning.proofs.Laws.Formula.{encloses_good}

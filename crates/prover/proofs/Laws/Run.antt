@@ -2,7 +2,7 @@
 --
 --   values_to, steps_to   what the first i entries give
 --   values_wide         a term's row is as long as its entry is wide
-use Prim.Native.Nat.{ℕ, suc, ◌+◌, ◌≤◌, ◌<◌}
+use Prim.Native.Nat.{ℕ, ◌+◌, ◌≤◌, ◌<◌}
 use native.Mathlib.Omega.{arith}
 use native.Mathlib.Nat.{le_refl}
 use native.Mathlib.Numerals.{add-one}

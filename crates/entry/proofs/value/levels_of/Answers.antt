@@ -1,5 +1,4 @@
 -- `levels_of` meets its contract. The invariant: the first i levels are read.
-use Prim.Native.Nat.{◌-◌}
 use native.Mathlib.Omega.{arith}
 use Rattle.entry.proofs.Laws.Levels.{reading_next, passed_wide}
 use Rattle.entry.proofs.value.levels_of.Goals as goal

@@ -1,5 +1,4 @@
 -- `nodes` meets its contract. The invariant: the nodes of the first k bits are made.
-use Prim.Native.Nat.{◌-◌}
 use mathlib.Core.Path.{refl}
 use Rattle.entry.proofs.Laws.Levels.{growing_start, growing_next, growing_done}
 use Rattle.entry.proofs.value.nodes.Goals as goal

@@ -1,7 +1,7 @@
 -- `work` meets its contract: the families by the kind number.
-use mathlib.Core.Path.{sym, ◌∙◌}
+use Rattle.std.proofs.Common.{arith, ◌≤◌, sym, ◌∙◌}
 use Rattle.entry.proofs.Laws.Levels.{passed_record}
-use Rattle.entry.proofs.Laws.Entry.{given}
+use Rattle.entry.proofs.Laws.Entry.{given, some_kind}
 use Rattle.entry.proofs.Laws.Kinds.{variable_done}
 use Rattle.entry.proofs.value.work.Goals as goal
 
@@ -15,6 +15,14 @@ returns-then-kind-eq1 c =
 
 pub returns-then-kind-eq2 : goal.returns-then-kind-eq2
 returns-then-kind-eq2 c = c.constant.ensures _ _ _ c.requires.alive.0
+
+pub term-requires : goal.term-requires
+term-requires c =
+    let pre = c.requires.alive in
+    let g = given pre.1.0 pre.1.1.0 c.requires.operand_held in
+    let some = some_kind g _ c.number-kind.ensures in
+    let low : 3 ≤ c.number-kind.result = omega (arith, some, c.if-kind-eq1.false, c.if-kind-eq2.false) in
+    (pre.0, (pre.1.1.1.0, (pre.1.1.1.1, (g, (c.number-kind.ensures, (low, c.if-kind-lt10.true))))))
 
 pub returns-then-kind-lt16 : goal.returns-then-kind-lt16
 returns-then-kind-lt16 c = c.moved.ensures _ _ _ c.requires.alive.0

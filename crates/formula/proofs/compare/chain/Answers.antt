@@ -1,5 +1,4 @@
 -- `formula::compare::chain` meets its contract. The invariant: the bits from i on are left.
-use Prim.Native.Nat.{◌-◌}
 use Rattle.formula.specs.Compare.{order_bit}
 use Rattle.formula.proofs.Laws.Rowed.{rowed_start, rowed_ready, rowed_next}
 use Rattle.formula.proofs.Laws.Rowed.{order_along, order_splits}

@@ -1,6 +1,5 @@
 -- `witness::fill` meets its contract. The loop's invariant: the bytes written, then those of the least assignment that
 -- the number left accepts from here on, are the least assignment.
-use Prim.Native.Nat.{◌-◌}
 use Rattle.lent.proofs.Laws.Witness.{filled_next}
 use Rattle.lent.proofs.witness.fill.Goals as goal
 

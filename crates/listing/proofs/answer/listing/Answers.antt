@@ -1,6 +1,5 @@
 -- `listing` is the definition's: a refusal's answer line, the lines of every other answer, on sat the values too.
 use Rattle.std.proofs.Common.{arith}
-use Rattle.sheet.proofs.Laws.Check.{checked_laid}
 use Rattle.listing.proofs.Laws.Listing.{judged_written, listed_judged, listed_sat}
 use Rattle.listing.proofs.answer.listing.Goals as goal
 

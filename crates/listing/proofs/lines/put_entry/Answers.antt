@@ -9,7 +9,7 @@ returns-then-kind-ne-VARIABLE c = (entry_none _ _ _ _ c.kind-kind.ensures c.if-k
 
 pub returns : goal.returns
 returns c = (
-      entry_some _ _ _ _ c.kind-kind.ensures _ c.if-kind-ne-VARIABLE.false
-          c.value_of-value.ensures c.put-number.ensures c.put_decimal-end.ensures.0 c.put_line.ensures.0,
-      omega (arith, c.put-number.ensures.far, c.put_decimal-end.ensures.1, c.put_line.ensures.1),
-    )
+  entry_some _ _ _ _ c.kind-kind.ensures _ c.if-kind-ne-VARIABLE.false
+      c.value_of-value.ensures c.put-number.ensures c.put_decimal-end.ensures.0 c.put_line.ensures.0,
+  omega (arith, c.put-number.ensures.far, c.put_decimal-end.ensures.1, c.put_line.ensures.1),
+)

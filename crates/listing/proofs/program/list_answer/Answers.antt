@@ -1,7 +1,7 @@
 -- Each of the answer's cases is listed by its numbers; on a refusal the assignment isn't read.
 use Rattle.std.proofs.Common.{arith, rules, sym, ap, ◌∙◌}
 use Rattle.prover.specs.Answer.{Numbers, only_number, answer_of}
-use Rattle.listing.proofs.Laws.Answered.{number_checked, listing_unsat, listing_solved}
+use Rattle.listing.proofs.Laws.Answered.{listing_unsat, listing_solved}
 use Rattle.listing.proofs.program.list_answer.Goals as goal
 
 pub returns-in-Refused : goal.returns-in-Refused

@@ -1,5 +1,4 @@
 -- `put_decimal` appends the decimal. The loop's invariant: the digits that are cut off stand at the array's end.
-use Prim.Native.Nat.{◌-◌}
 use mathlib.Core.Path.{refl}
 use borrow.Author.Rules.{rules}
 use Rattle.listing.proofs.Laws.Decimal.{cut_begin}

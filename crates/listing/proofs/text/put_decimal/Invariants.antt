@@ -1,6 +1,4 @@
 -- `put_decimal` appends the decimal. The loop's invariant: the digits that are cut off stand at the array's end.
-use Prim.Native.Nat.{◌-◌}
-use Rattle.listing.specs.Written.{digits}
 use Rattle.listing.proofs.Laws.Decimal.{Cut}
 use Rattle.listing.proofs.text.put_decimal.Given as goal
 
