@@ -34,7 +34,8 @@ pub fn listing(
     let held = put_line(out, judged, b"must ", must);
     let allowed = put_line(out, held, b"may ", may);
     let end = put_line(out, allowed, b"slots ", used);
-    if verdict != 1 {
+    let sat = verdict == 1;
+    if !sat {
         return end;
     }
     put_entries(s, a, out, end)
