@@ -1,9 +1,9 @@
 -- Marks, one bit a slot, and what they say when some diagrams have been counted.
 --
---   marked_at marks k            is slot k marked?
---   marking marks k             the marks with slot k's set
---   Counted room T marks s C    the s nodes of C are counted: exactly their slots in table T are marked
---   Visited                     what a visit of number n does to marks and count
+--   marked_at marks k         is slot k marked?
+--   marking marks k           the marks with slot k's set
+--   Counted room T marks s C  the s nodes of C are counted: exactly their slots in table T are marked
+--   Visited                   what a visit of number n does to marks and count
 use Rattle.std.specs.Prelude.{ℕ, ◌+◌, ◌*◌, ◌/◌, ◌%◌, ◌^◌, ◌≤◌, ◌<◌, ◌≡◌, Bool, true, false, List, length, get_or, set}
 use Rattle.std.specs.Int.Bits.{bit_or}
 use Rattle.meaning.specs.Number.{odd}

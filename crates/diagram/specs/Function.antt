@@ -1,7 +1,7 @@
 -- Functions of three diagrams as truth tables of eight rows.
 --
---   table_of f      the function whose row 4a + 2b + c is bit 4a + 2b + c of f
---   evaluate q v   the function q asks, where v says which numbers are true
+--   table_of f    the function whose row 4a + 2b + c is bit 4a + 2b + c of f
+--   evaluate q v  the function q asks, where v says which numbers are true
 use Rattle.std.specs.Prelude.{ℕ, ◌+◌, ◌*◌, ◌/◌, ◌^◌, ◌≤◌, ◌<◌, ◌≡◌, Bool, true, false, cond, ◌⊎◌, eqb}
 use Rattle.std.specs.Int.Bits.{bit_and}
 use Rattle.meaning.specs.Number.{odd, digit}

@@ -1,6 +1,6 @@
 -- The builder's state over a lent table and scratch, and what some steps do to it.
 --
---   nodes_of cells used   the nodes of the first `used` slots
+--   nodes_of cells used  the nodes of the first `used` slots
 --   Ready                table and scratch are right for this state
 --   Means                a number stands for a diagram; asked only while there is room
 --   After                these steps and no others lie between two states

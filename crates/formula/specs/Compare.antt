@@ -1,8 +1,8 @@
 -- One bit of a comparison, by the numbers that stand for bits.
 --
---   agree_bit, order_bit   one bit's part of `equal_from`, of `chain`
+--   agree_bit, order_bit  one bit's part of `equal_from`, of `chain`
 --   read_of               a number, where the unknown mark is read as z
---   Sure                 no number of a row is the unknown mark
+--   Sure                  no number of a row is the unknown mark
 use Rattle.std.specs.Prelude.{ℕ, ◌+◌, ◌≤◌, ◌<◌, ◌≡◌, ◌≢◌, Bool, true, false, cond, not, ◌&&◌, List, eqb, get_or}
 use Rattle.meaning.specs.Number.{digit}
 use Rattle.meaning.specs.Diagram.{Tree}

@@ -1,8 +1,8 @@
 -- Witness's answer in document 01's numbers.
 --
---   witnessed r    number of the answer r
---   Witnesses      the answer and what is left in the buffer are document 01's
---   choice_at       one level's byte
+--   witnessed r  number of the answer r
+--   Witnesses    the answer and what is left in the buffer are document 01's
+--   choice_at    one level's byte
 use Rattle.std.specs.Prelude.{ℕ, ◌≡◌, false, List, eqb, length}
 use Rattle.meaning.specs.Number.{digit}
 use Rattle.meaning.specs.Solve.{after}

@@ -1,7 +1,7 @@
 -- The exported answers beside document 01's.
 --
---   numbers_in, value_in   an exported struct's numbers
---   Solves, Wrote        what it is to be solve's and witness's answer, with what is left in the buffers
+--   numbers_in, value_in  an exported struct's numbers
+--   Solves, Wrote         what it is to be solve's and witness's answer, with what is left in the buffers
 use Rattle.std.specs.Prelude.{ℕ, ◌≡◌, List, length}
 use Rattle.meaning.specs.Solve as Solve
 use Rattle.meaning.specs.Value as Value

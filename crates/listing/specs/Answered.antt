@@ -1,8 +1,8 @@
 -- An answer of solve beside the table that it left, and the witness of must read off that table.
 --
---   solved_here s           document 01's answer to the sheet s at 2,048 slots and no named limit
---   Answered s a t         a and the table t are that answer's
---   WitnessBytes t u m r   r are the bytes that witness leaves in a buffer of zeros
+--   solved_here s         document 01's answer to the sheet s at 2,048 slots and no named limit
+--   Answered s a t        a and the table t are that answer's
+--   WitnessBytes t u m r  r are the bytes that witness leaves in a buffer of zeros
 use Rattle.std.specs.Prelude.{ℕ, ◌*◌, ◌≡◌, List, [], replicate}
 use Rattle.meaning.specs.Solve as Solve
 use Rattle.meaning.specs.Table.{cells}

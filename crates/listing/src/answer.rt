@@ -20,8 +20,8 @@ pub fn listing(
     a: &[u8],
     out: &mut [u8],
 ) -> usize
-    requires s_value { number ≡ 0 → check s.now ≡ 0 }
-    requires in_bounds { 16384 ≤ length out.old }
+    requires passed { number ≡ 0 → check s.now ≡ 0 }
+    requires room { 16384 ≤ length out.old }
     ensures { (take result out.new ≡
         listed number verdict must may used (entries s.now) (assignment a.now)) ×
         (result ≤ 16384) }

@@ -12,7 +12,7 @@ use sheet::read::{count, kind};
 // Entry i's line, if it is a variable.
 fn put_entry(s: &[u8], a: &[u8], out: &mut [u8], at: usize, i: usize) -> usize
     requires laid { Laid s.now × (i < count s.now) }
-    requires at_in_bounds { at + 40 ≤ length out.old }
+    requires room { at + 40 ≤ length out.old }
     ensures { Written out.old at out.new result (entry_text s.now a.now i) ×
         (result ≤ at + 40) }
 {
@@ -31,7 +31,7 @@ fn put_entry(s: &[u8], a: &[u8], out: &mut [u8], at: usize, i: usize) -> usize
 #[tactic(auto, using(crate::proofs::Laws::Entry::going_end))]
 pub fn put_entries(s: &[u8], a: &[u8], out: &mut [u8], at: usize) -> usize
     requires laid { Laid s.now }
-    requires at_in_bounds { at + 10240 ≤ length out.old }
+    requires room { at + 10240 ≤ length out.old }
     ensures { Written out.old at out.new result (value_lines s.now a.now) ×
         (result ≤ at + 10240) }
 {

@@ -1,7 +1,7 @@
 -- The kinds of entries, and the short table of each kind's body length, operand sorts and widths.
 --
 --   rules      01's table of kinds, a row each
---   rule_of k   the row of kind number k, or `absent`'s row where the table has none
+--   rule_of k  the row of kind number k, or `absent`'s row where the table has none
 use Rattle.std.specs.Prelude.{ℕ, cond, List, [], ◌∷◌, eqb}
 
 -- what an entry is: terms, then formulas; `absent` stands for a number that is no kind's

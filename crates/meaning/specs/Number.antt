@@ -1,9 +1,9 @@
 -- Numbers as bytes and as bits, lowest first.
 --
---   little bytes   the number whose little-endian bytes these are
---   bits w x       the lowest w bits of x
---   number bits    the number whose bits these are
---   up_to f n       f 0, f 1, ... f (n - 1)
+--   little bytes  the number whose little-endian bytes these are
+--   bits w x      the lowest w bits of x
+--   number bits   the number whose bits these are
+--   up_to f n     f 0, f 1, ... f (n - 1)
 use Rattle.std.specs.Prelude.{ℕ, zero, suc, ◌+◌, ◌*◌, ◌/◌, ◌%◌, Bool, true, false, List, [], ◌∷◌, eqb}
 
 abbrev pub little : List ℕ → ℕ

@@ -1,6 +1,6 @@
 -- The run of a sheet at a limit: every entry is worked in entry order, needed by the last one or not.
 --
---   work_of kind es n L before e   the value of entry e and its steps, from the values before it
+--   work_of kind es n L before e  the value of entry e and its steps, from the values before it
 --   run es L                      the values of all entries, and all steps
 use Rattle.std.specs.Prelude.{ℕ, zero, suc, ◌-◌, true, false, ◌&&◌, ◌||◌, List, [], ◌∷◌, ◌++◌, length, get_or}
 use Rattle.meaning.specs.Number.{up_to}

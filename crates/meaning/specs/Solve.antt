@@ -1,8 +1,8 @@
 -- Solve: from the sheet, the limit and the two buffers' lengths alone to the answer and to what is left in the buffers.
 --
---   solve s L table work   the answer at limit L; `table` and `work` are the buffers' lengths in numbers
---   unnamed_limit slots     the limit where none is named
---   after left before      what stands in a buffer that held `before`
+--   solve s L table work  the answer at limit L; `table` and `work` are the buffers' lengths in numbers
+--   unnamed_limit slots   the limit where none is named
+--   after left before     what stands in a buffer that held `before`
 use Rattle.std.specs.Prelude.{ℕ, ◌-◌, ◌*◌, ◌/◌, ◌%◌, Bool, cond, not, ◌||◌, List, [], ◌++◌, eqb, ltb, length, replicate}
 use Rattle.meaning.specs.Sheet.{Entry, entries}
 use Rattle.meaning.specs.Check.{refuse, first, check}

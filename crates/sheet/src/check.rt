@@ -49,7 +49,7 @@ impl Checked {
 #[tactic(auto, using(crate::proofs::Laws::Sheet::part_inside, crate::proofs::Laws::Check::entry_four, crate::proofs::Laws::Check::entry_five, crate::proofs::Laws::Check::entry_six, crate::proofs::Laws::Check::entry_none))]
 fn entry_refusal(s: &[u8], i: usize) -> Checked
     requires laid { Laid s.now }
-    requires i_bound { i < count s.now }
+    requires inside { i < count s.now }
     ensures { number_of result ≡ entry_refusal (entries s.now) i (entry_at s.now i) }
 {
     let row = kind(s, i);

@@ -62,7 +62,7 @@ pub fn levels(s: &[u8]) -> u32
 #[tactic(auto, using(crate::proofs::Laws::Level::level_at_lem))]
 pub fn level(s: &[u8], i: usize, b: u32) -> u32
     requires laid { Laid s.now }
-    requires i_bound { (i < count s.now) × (b < variable_bits (entry_at s.now i)) }
+    requires inside { (i < count s.now) × (b < variable_bits (entry_at s.now i)) }
     ensures { result ≡ level (entries s.now) i b }
 {
     before(s, i, b)

@@ -85,7 +85,7 @@ pub fn part<'a>(s: &'a [u8], i: usize, many: usize) -> &'a [u8]
 #[tactic(auto, using(crate::proofs::Laws::Read::body_end, crate::proofs::Laws::Read::body_is))]
 pub fn body<'a>(s: &'a [u8], i: usize) -> &'a [u8]
     requires i_in_bounds { record_at (i + 1) ≤ length s.now }
-    requires i_in_bounds_2 { place s.now i + (rule_at s.now i).body ≤ length s.now }
+    requires body_in_bounds { place s.now i + (rule_at s.now i).body ≤ length s.now }
     ensures { result.now ≡ body s.now i }
 {
     let row = kind(s, i);

@@ -1,9 +1,9 @@
 -- The operations that go place by place, as one: not, and, or, xor and if-then-else differ in what they do with a pair of
 -- bits.
 --
---   bit_of      what an operation does with a pair of bits
---   BitMeans   a number stands for a bit; asked only while there is room
---   BitMade    the work of one bit was done, and a number stands for its value
+--   bit_of    what an operation does with a pair of bits
+--   BitMeans  a number stands for a bit; asked only while there is room
+--   BitMade   the work of one bit was done, and a number stands for its value
 use Rattle.std.specs.Prelude.{ℕ, ◌≡◌, ◌⊎◌, true, false, cond, List, eqb}
 use Rattle.meaning.specs.Diagram.{Tree}
 use Rattle.meaning.specs.Step.{Work, is_and, is_or, is_xor}

@@ -1,6 +1,6 @@
 -- A ready state's numbers: each stands for the diagram that its nodes spell, a part's number for the diagram's part.
 --
---   enter_all_mk   low part, high part, then the node: what the node alone enters
+--   enter_all_mk  low part, high part, then the node: what the node alone enters
 --   tree_stands   number a stands for `tree_of cells a`, and for no other diagram (tree_one)
 --   tree_part     a part's number stands for the diagram's part
 --   parts_fall    the parts of three numbers at their lowest level are smaller in sum

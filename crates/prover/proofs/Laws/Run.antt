@@ -1,7 +1,7 @@
 -- The run entry by entry: the values and steps of the first i entries.
 --
---   values_to, steps_to   what the first i entries give
---   values_wide         a term's row is as long as its entry is wide
+--   values_to, steps_to  what the first i entries give
+--   values_wide          a term's row is as long as its entry is wide
 use Prim.Native.Nat.{ℕ, ◌+◌, ◌≤◌, ◌<◌}
 use native.Mathlib.Omega.{arith}
 use native.Mathlib.Nat.{le_refl}
