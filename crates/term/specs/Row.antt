@@ -3,8 +3,7 @@
 --   BitIs     a number stands for a bit: a diagram's number, or the unknown mark
 --   RowMeans  a row of numbers stands for a row of bits; the bits are asked only while there is room
 --   RowKnown  each number is the unknown mark, a terminal or a used node's
-use Rattle.std.specs.Prelude.{ℕ, ◌+◌, ◌≤◌, ◌<◌, ◌≡◌, ◌⊎◌, false, List}
-use lib.ListN.{length, get_or}
+use Rattle.std.specs.Prelude.{ℕ, ◌+◌, ◌≤◌, ◌<◌, ◌≡◌, ◌⊎◌, false, List, length, get_or, take}
 use Rattle.meaning.specs.Table.{Table}
 use Rattle.meaning.specs.Row
 use Rattle.meaning.specs.Row.{Bit, known, unknown}
@@ -41,7 +40,7 @@ pub record RowKnown (b : Builder) (row : Declared.Row) : Type 0 where
 
 -- a row's own places
 abbrev pub places : Declared.Row → List ℕ
-places row = lib.ListN.take row.width row.bits
+places row = take row.width row.bits
 
 -- ---- what an operation makes
 
