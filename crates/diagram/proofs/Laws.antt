@@ -16,7 +16,7 @@ pub mod Node
 -- the step and the quantifier step, with their memo
 pub mod Parts
 pub mod Memo
-pub mod Gives
+pub mod Enters
 pub mod Step
 pub mod Quantify
 -- the count by marks

@@ -11,7 +11,7 @@ use Rattle.meaning.specs.Diagram.{Tree}
 use Rattle.meaning.specs.Table.{Table, enter}
 use Rattle.meaning.specs.Solve.{slots}
 use Rattle.meaning.proofs.Laws.Table.{Is, Single, Falls}
-use Rattle.diagram.specs.State.{nodes_of}
+use Rattle.diagram.specs.Table.{nodes_of}
 
 -- ---- marks
 
@@ -57,12 +57,12 @@ pub record Counted (room : ℕ) (T : Table) (marks : List ℕ) (so_far : ℕ) (C
   pub marked : (k : ℕ) → k < length C → Marked T marks C k
   pub listed : (k : ℕ) → k < room → marked_at marks k ≡ true → Listed T C k
 
--- number n can be visited: numbers fall below it, and there is a mark for each slot
-pub record Visitable (cells marks : List ℕ) (n : ℕ) : Type 0 where
+-- number n can be visited: numbers fall below it, and there is a mark for each used slot in so many words
+pub record Visitable (cells : List ℕ) (words n : ℕ) : Type 0 where
   pub used : ℕ
   pub room : used ≤ slots (length cells)
+  pub marks_room : used ≤ 32 * words
   pub falls : Falls (nodes_of cells used)
-  pub marks_room : used ≤ 32 * length marks
   pub inside : n < used + 2
 
 -- the nodes of C are counted, or there are more of them than the limit

@@ -2,17 +2,16 @@
 --
 --   table_of f    the function whose row 4a + 2b + c is bit 4a + 2b + c of f
 --   evaluate q v  the function q asks, where v says which numbers are true
-use Rattle.std.specs.Prelude.{ℕ, ◌+◌, ◌*◌, ◌/◌, ◌^◌, ◌≤◌, ◌<◌, ◌≡◌, Bool, true, false, cond, ◌⊎◌, eqb}
+use Rattle.std.specs.Prelude.{ℕ, ◌+◌, ◌*◌, ◌/◌, ◌^◌, ◌≤◌, ◌<◌, ◌≡◌, Bool, true, false, cond, ◌⊎◌, eqb, Option, Some, None}
 use Rattle.std.specs.Int.Bits.{bit_and}
 use Rattle.meaning.specs.Number.{odd, digit}
 use Rattle.meaning.specs.Step.{Function}
-use Rattle.diagram.specs.declared.function.Asked.{Asked}
-use Rattle.diagram.specs.declared.function.Quick.{Quick}
+use Rattle.diagram.specs.declared.function.Question.{Question}
 
 unfoldable pub table_of : ℕ → Function
 table_of f a b c = odd (f / 2 ^ (4 * digit a + 2 * digit b + digit c))
 
-unfoldable pub evaluate : Asked → (ℕ → Bool) → Bool
+unfoldable pub evaluate : Question → (ℕ → Bool) → Bool
 evaluate q v = table_of q.f (v q.a) (v q.b) (v q.c)
 
 -- v is right about the terminals
@@ -21,18 +20,22 @@ pub record Terminal (v : ℕ → Bool) : Type 0 where
   pub truth : v 1 ≡ true
 
 -- r asks the same as q, of the same operands or of 0
-pub record Shorter (q r : Asked) : Type 0 where
+pub record Shorter (q r : Question) : Type 0 where
   pub small : r.f < 256
   pub same : (v : ℕ → Bool) → Terminal v → evaluate r v ≡ evaluate q v
   pub a_from : (r.a ≡ q.a) ⊎ (r.a ≡ 0)
   pub b_from : (r.b ≡ q.b) ⊎ (r.b ≡ 0)
   pub c_from : (r.c ≡ q.c) ⊎ (r.c ≡ 0)
 
--- an answer that needs no node: a terminal or an operand; without one some operand is a node
-pub record Answers (q : Asked) (k : Quick) : Type 0 where
-  pub same : k.done ≡ true → (v : ℕ → Bool) → Terminal v → evaluate q v ≡ v k.number
-  pub from : k.done ≡ true → (k.number < 2) ⊎ ((k.number ≡ q.a) ⊎ ((k.number ≡ q.b) ⊎ (k.number ≡ q.c)))
-  pub left : k.done ≡ false → (2 ≤ q.a) ⊎ ((2 ≤ q.b) ⊎ (2 ≤ q.c))
+-- number n answers q, and needs no node: it is a terminal or an operand
+pub record AnsweredBy (q : Question) (n : ℕ) : Type 0 where
+  pub same : (v : ℕ → Bool) → Terminal v → evaluate q v ≡ v n
+  pub from : (n < 2) ⊎ ((n ≡ q.a) ⊎ ((n ≡ q.b) ⊎ (n ≡ q.c)))
+
+-- such an answer; without one some operand is a node
+abbrev pub Answers : Question → Option ℕ → Type 0
+Answers q (Some n) = AnsweredBy q n
+Answers q None = (2 ≤ q.a) ⊎ ((2 ≤ q.b) ⊎ (2 ≤ q.c))
 
 -- ---- how a table is rewritten: its rows lie in pairs, s rows apart, and d is 2 ^ s
 

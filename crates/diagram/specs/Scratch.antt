@@ -1,18 +1,23 @@
 -- What stands in scratch: the index by which a node is found, and the memo of steps.
 --
--- Scratch is `covered` heads, then `covered` links, then `memo` entries of five numbers each. Heads and links hold a slot plus
--- one, or 0 for none. A chain runs from a head through links to ever lower slots. Slots past `covered` are in no chain.
+-- Heads and links hold a slot plus one, or 0 for none. A chain runs from a head through links to ever lower slots; there is a link
+-- for each of the first slots, as many as there are heads. Slots past those are in no chain. A memo entry is four numbers: the
+-- operation and its first operand packed into one, the other two operands, the result.
 --
---   Indexed T w covered          each covered slot of T is in the chain of its place
---   Remembers T w covered memo   each remembered result is the step's
-use Rattle.std.specs.Prelude.{ℕ, suc, ◌+◌, ◌-◌, ◌*◌, ◌≤◌, ◌<◌, ◌≡◌, false, cond, ◌&&◌, ◌||◌, List, ltb, length, get_or, set}
+--   Indexed T heads links   each slot of T that has a link is in the chain of its place
+--   Remembers T memo        each remembered result is the operation's
+--   Right T s               both, of scratch s
+use Rattle.std.specs.Prelude.{ℕ, ◌+◌, ◌-◌, ◌*◌, ◌≤◌, ◌<◌, ◌≡◌, false, cond, ◌&&◌, ◌||◌, List, [], ◌∷◌, Option, Some, None, ltb, length, get_or, set}
 use Rattle.meaning.specs.Diagram.{Tree}
-use Rattle.meaning.specs.Table.{Node, slot, Table, alike}
+use Rattle.meaning.specs.Table.{Node, slot, Table, alike, slot_of}
 use Rattle.meaning.specs.Step.{step_tree, quantify_tree}
 use Rattle.meaning.proofs.Laws.Shape.{Good}
 use Rattle.meaning.proofs.Laws.Table.{Is, none}
 use Rattle.diagram.specs.Hash.{place_of}
 use Rattle.diagram.specs.Function.{table_of}
+use Rattle.diagram.specs.Table.{nodes_of}
+use Rattle.diagram.specs.declared.scratch.Scratch.{Scratch}
+use Rattle.diagram.specs.declared.scratch.Key.{Key}
 
 -- ---- the index
 
@@ -21,34 +26,40 @@ abbrev pub home_of : ℕ → Node → ℕ
 home_of covered (slot i a b) = place_of covered i a b 0
 
 abbrev pub head_at : List ℕ → ℕ → ℕ
-head_at w h = get_or w h 0
+head_at heads h = get_or heads h 0
 
-abbrev pub link_at : List ℕ → ℕ → ℕ → ℕ
-link_at w covered k = get_or w (covered + k) 0
+abbrev pub link_at : List ℕ → ℕ → ℕ
+link_at links k = get_or links k 0
 
-pub record Indexed (T : Table) (w : List ℕ) (covered : ℕ) : Type 0 where
+-- the place of slot k's node
+abbrev pub place_at : Table → List ℕ → ℕ → ℕ
+place_at T heads k = home_of (length heads) (get_or T k none)
+
+pub record Indexed (T : Table) (heads links : List ℕ) : Type 0 where
   -- a head or link names a slot of this chain, or none
-  pub head_le : (h : ℕ) → h < covered → (head_at w h ≤ length T) × (head_at w h ≤ covered)
-  pub head_home : (h : ℕ) → h < covered → 0 < head_at w h → home_of covered (get_or T (head_at w h - 1) none) ≡ h
-  pub link_le : (k : ℕ) → k < length T → k < covered → link_at w covered k ≤ k
-  pub link_home : (k : ℕ) → k < length T → k < covered → 0 < link_at w covered k →
-      home_of covered (get_or T (link_at w covered k - 1) none) ≡ home_of covered (get_or T k none)
+  pub head_le : (h : ℕ) → h < length heads → (head_at heads h ≤ length T) × (head_at heads h ≤ length heads)
+  pub head_home : (h : ℕ) → h < length heads → 0 < head_at heads h → place_at T heads (head_at heads h - 1) ≡ h
+  pub link_le : (k : ℕ) → k < length T → k < length heads → link_at links k ≤ k
+  pub link_home : (k : ℕ) → k < length T → k < length heads → 0 < link_at links k
+      → place_at T heads (link_at links k - 1) ≡ place_at T heads k
   -- no slot is passed over
-  pub head_reach : (k : ℕ) → k < length T → k < covered → k < head_at w (home_of covered (get_or T k none))
-  pub link_reach : (j k : ℕ) → j < k → k < length T → k < covered →
-      home_of covered (get_or T j none) ≡ home_of covered (get_or T k none) → j < link_at w covered k
+  pub head_reach : (k : ℕ) → k < length T → k < length heads → k < head_at heads (place_at T heads k)
+  pub link_reach : (j k : ℕ) → j < k → k < length T → k < length heads → place_at T heads j ≡ place_at T heads k
+      → j < link_at links k
 
 -- none of the first n slots holds x
 pub record Passed (T : Table) (n : ℕ) (x : Node) : Type 0 where
   pub miss : (k : ℕ) → k < n → k < length T → alike x (get_or T k none) ≡ false
 
--- slot k, a new one, comes first in its chain: its link is the old head
-abbrev pub linked : List ℕ → ℕ → ℕ → ℕ → List ℕ
-linked w covered k h = set (set w (covered + k) (head_at w h)) h (k + 1)
+-- the slot that holds x, of a lent table's used ones, or none
+abbrev pub Finds : List ℕ → ℕ → Node → Option ℕ → Type 0
+Finds cells used x (Some k) = (k < used) × (k ≡ slot_of x (nodes_of cells used))
+Finds cells used x None = used ≡ slot_of x (nodes_of cells used)
 
--- the same if it is covered, where slot k holds x
-unfoldable pub covering : List ℕ → ℕ → ℕ → Node → List ℕ
-covering w covered k x = cond (ltb k covered) (linked w covered k (home_of covered x)) w
+-- slot k, a new one that holds x, comes first in its chain, if it has a link: its link is the old head
+pub record Covers (heads links : List ℕ) (k : ℕ) (x : Node) (heads' links' : List ℕ) : Type 0 where
+  pub heads_are : heads' ≡ cond (ltb k (length heads)) (set heads (home_of (length heads) x) (k + 1)) heads
+  pub links_are : links' ≡ cond (ltb k (length heads)) (set links k (head_at heads (home_of (length heads) x))) links
 
 -- ---- the memo
 
@@ -68,34 +79,41 @@ pub record Result (T : Table) (op a b c r : ℕ) : Type 0 where
   pub gives : (x y z : Tree) → Good 128 x → Good 128 y → Good 128 z → Is T a x → Is T b y → Is T c z →
       Is T r (operation op x y z)
 
--- where memo entry e begins
-abbrev pub entry_at : ℕ → ℕ → ℕ
-entry_at covered e = 2 * covered + 5 * e
+-- an operation and its first operand in one number; 0 is nothing remembered
+abbrev pub packed : ℕ → ℕ → ℕ
+packed op a = (op + 1) * 2097152 + a
 
--- the first number is the operation plus one, 0 where nothing is remembered; then the operands; then the result
-abbrev pub Remembers : Table → List ℕ → ℕ → ℕ → Type 0
-Remembers T w covered memo =
-    (e op : ℕ) → e < memo → get_or w (entry_at covered e) 0 ≡ suc op →
-    Result T op (get_or w (entry_at covered e + 1) 0) (get_or w (entry_at covered e + 2) 0) (get_or w (entry_at covered e + 3) 0)
-    (get_or w (entry_at covered e + 4) 0)
+-- what a memo of so many entries is asked for an operation of three diagrams; a first operand that doesn't fit beside an
+-- operation has its place past all entries
+abbrev pub key_of : ℕ → ℕ → ℕ → ℕ → ℕ → Key
+key_of size op a b c =
+    let fits : Key = record { first = packed op a; b = b; c = c; place = place_of size (packed op a) b c 0 } in
+    let past : Key = record { first = 0; b = b; c = c; place = size } in
+    cond (ltb a 2097152) fits past
 
-abbrev pub remembered : List ℕ → ℕ → ℕ → ℕ → ℕ → ℕ → ℕ → List ℕ
-remembered w at op a b c r = set (set (set (set (set w at (op + 1)) (at + 1) a) (at + 2) b) (at + 3) c) (at + 4) r
+-- number i of entry e
+abbrev pub number_at : List (List ℕ) → ℕ → ℕ → ℕ
+number_at memo e i = get_or (get_or memo e []) i 0
 
--- some entry says that this operation of these operands gives r
-pub record Recalled (w : List ℕ) (covered memo op a b c r : ℕ) : Type 0 where
+abbrev pub Remembers : Table → List (List ℕ) → Type 0
+Remembers T memo = (e op a : ℕ) → e < length memo → a < 2097152 → number_at memo e 0 ≡ packed op a
+    → Result T op a (number_at memo e 1) (number_at memo e 2) (number_at memo e 3)
+
+-- some entry says that what the key asks gives r
+pub record Recalled (memo : List (List ℕ)) (key : Key) (r : ℕ) : Type 0 where
   pub entry : ℕ
-  pub inside : entry < memo
-  pub is_op : get_or w (entry_at covered entry) 0 ≡ suc op
-  pub is_a : get_or w (entry_at covered entry + 1) 0 ≡ a
-  pub is_b : get_or w (entry_at covered entry + 2) 0 ≡ b
-  pub is_c : get_or w (entry_at covered entry + 3) 0 ≡ c
-  pub is_r : get_or w (entry_at covered entry + 4) 0 ≡ r
+  pub inside : entry < length memo
+  pub is_first : number_at memo entry 0 ≡ key.first
+  pub is_b : number_at memo entry 1 ≡ key.b
+  pub is_c : number_at memo entry 2 ≡ key.c
+  pub is_r : number_at memo entry 3 ≡ r
 
--- the five numbers from `at` on
-pub record Holds (w : List ℕ) (at op a b c r : ℕ) : Type 0 where
-  pub is_op : get_or w at 0 ≡ op
-  pub is_a : get_or w (at + 1) 0 ≡ a
-  pub is_b : get_or w (at + 2) 0 ≡ b
-  pub is_c : get_or w (at + 3) 0 ≡ c
-  pub is_r : get_or w (at + 4) 0 ≡ r
+-- the memo with a result kept; where there is no such place it stays as it is
+abbrev pub noted : List (List ℕ) → Key → ℕ → List (List ℕ)
+noted memo key r = set memo key.place (key.first ∷ key.b ∷ key.c ∷ r ∷ [])
+
+-- ---- both
+
+pub record Right (T : Table) (s : Scratch) : Type 0 where
+  pub indexed : Indexed T s.heads.now s.links.now
+  pub remembers : Remembers T s.memo.now

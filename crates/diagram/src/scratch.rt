@@ -1,102 +1,174 @@
-// The index by which a node is found, and the memo of steps: both in lent scratch of any length, 0 included.
-ghost use Rattle.std.specs.Prelude.{◌≡◌, true, false, ◌+◌, ◌*◌, ◌<◌, ◌≤◌, length, replicate};
-ghost use Rattle.diagram.specs.Hash.{place_of};
-ghost use Rattle.diagram.specs.Scratch.{Holds, Recalled, entry_at, linked, remembered};
+//! The index by which a node is found, and the memo of steps: both in lent scratch of any length, none included.
+ghost use Rattle.std.specs.Prelude.{◌≡◌, ◌*◌, ◌<◌, ◌≤◌, length};
 
-use crate::function::Quick;
 use crate::hash::place;
+use crate::number::Diagram;
+use crate::table;
+use crate::table::{Cell, Node};
 
-// Slot k, a new one whose place is h, comes first in its chain.
-pub fn link(w: &mut [u32], covered: usize, k: usize, h: usize)
-    requires { (2 * covered ≤ length w.old) × ((k < covered) × ((h < covered) × (covered ≤ 1048576))) }
-    ensures { w.new ≡ linked w.old covered k h }
-{
-    w[covered + k] = w[h];
-    w[h] = (k + 1) as u32;
+/// Scratch, divided: the heads and links of the index's chains, and the memo's entries of four numbers each.
+#[derive(Drop)]
+pub struct Scratch<'a> {
+    pub heads: &'a mut [u32],
+    pub links: &'a mut [u32],
+    pub memo: &'a mut [[u32; 4]],
+    ghost one_link_each: { length links.now ≡ length heads.now },
+    ghost heads_le: { length heads.now ≤ 1048576 },
+    ghost memo_le: { length memo.now ≤ 16777216 },
 }
 
-// Where this operation of these operands would be remembered.
-fn entry_of(covered: usize, memo: usize, op: u32, a: u32, b: u32, c: u32) -> usize
-    requires { (covered ≤ 1048576) × ((0 < memo) × (memo ≤ 16777216)) }
-    ensures { (result ≡ entry_at covered (place_of memo op a b c)) × (result + 5 ≤ 2 * covered + 5 * memo) }
-{
-    2 * covered + 5 * place(memo, op, a, b, c)
-}
-
-// The five numbers of a memo entry: the operation plus one, the operands, the result.
+/// What the memo is asked: an operation of three diagrams, in the numbers of an entry, and its place. `first` is the operation
+/// with its first diagram.
 #[derive(Clone, Copy)]
-struct Entry {
-    op: u32,
-    a: u32,
-    b: u32,
-    c: u32,
-    r: u32,
+pub struct Key {
+    pub first: u32,
+    pub b: u32,
+    pub c: u32,
+    pub place: usize,
 }
 
-fn entry_at(w: &[u32], at: usize) -> Entry
-    requires { at + 5 ≤ length w.now }
-    ensures { Holds w.now at result.op result.a result.b result.c result.r }
-{
-    Entry {
-        op: w[at],
-        a: w[at + 1],
-        b: w[at + 2],
-        c: w[at + 3],
-        r: w[at + 4],
-    }
-}
+impl<'a> Scratch<'a> {
+    ghost use Rattle.std.specs.Prelude.{Option, IfSome};
+    ghost use Rattle.diagram.specs.Table.{nodes_of, slot_as};
+    ghost use Rattle.diagram.specs.Scratch.{Covers, Finds, Passed, Recalled, home_of, key_of, noted};
+    ghost use Rattle.diagram.specs.State.{Ready};
 
-// The remembered result, if there is one.
-pub fn recall(w: &[u32], covered: usize, memo: usize, op: u32, a: u32, b: u32, c: u32) -> Quick
-    requires { (2 * covered + 5 * memo ≤ length w.now) × ((covered ≤ 1048576) × ((memo ≤ 16777216) × (op < 512))) }
-    ensures { result.done ≡ true → Recalled w.now covered memo op a b c result.number }
-{
-    let none = Quick {
-        done: false,
-        number: 0,
-    };
-    if memo == 0 {
-        return none;
+    /// Scratch for an empty table, whatever stood in these words: an eighth of them are heads, an eighth links, as far as there
+    /// are slots; the rest is memo.
+    pub fn new(t: &[Cell], words: &'a mut [u32]) -> Scratch<'a>
+        requires { length t.now ≤ 3145728 }
+        ensures { Ready t.now result (record { used = 0 }) }
+    {
+        words.fill(0);
+        let covered = (words.len() / 8).min(table::slots(t));
+        let (heads, rest) = words.split_at_mut(covered);
+        let (links, rest) = rest.split_at_mut(covered);
+        let (entries, _) = rest.as_chunks_mut::<4>();
+        let many = entries.len().min(16777216);
+        Scratch {
+            heads,
+            links,
+            memo: &mut entries[..many],
+        }
     }
-    let e = entry_at(w, entry_of(covered, memo, op, a, b, c));
-    if e.op != op + 1 {
-        return none;
-    }
-    if e.a != a {
-        return none;
-    }
-    if e.b != b {
-        return none;
-    }
-    if e.c != c {
-        return none;
-    }
-    Quick {
-        done: true,
-        number: e.r,
-    }
-}
 
-// This operation of these operands gives r, from now on.
-pub fn remember(w: &mut [u32], covered: usize, memo: usize, op: u32, a: u32, b: u32, c: u32, r: u32)
-    requires { (2 * covered + 5 * memo ≤ length w.old) × ((covered ≤ 1048576) × ((0 < memo) × ((memo ≤ 16777216) × (op < 512)))) }
-    ensures { w.new ≡ remembered w.old (entry_at covered (place_of memo op a b c)) op a b c r }
-{
-    let at = entry_of(covered, memo, op, a, b, c);
-    w[at] = op + 1;
-    w[at + 1] = a;
-    w[at + 2] = b;
-    w[at + 3] = c;
-    w[at + 4] = r;
-}
+    // A node's place among the heads.
+    fn home(covered: usize, node: Node) -> usize
+        requires { covered ≤ 1048576 }
+        ensures place { result ≡ home_of covered (slot_as node) }
+        ensures inside { 0 < covered → result < covered }
+    {
+        place(
+            covered,
+            node.level,
+            node.low.number(),
+            node.high.number(),
+            0,
+        )
+    }
 
-// All zeros.
-pub fn clear(w: &mut [u32])
-    ensures { w.new ≡ replicate (length w.old) 0 }
-{
-    let mut i = 0;
-    while i < w.len() {
-        w[i] = 0;
-        i += 1;
+    // The slot of a node, if it is there. No slot before `from` holds it.
+    #[tactic(auto, using(crate::proofs::Laws::Index::scan_more, crate::proofs::Laws::Index::scan_end))]
+    fn scan(t: &[Cell], from: usize, used: usize, node: Node) -> Option<usize>
+        requires room { 3 * used ≤ length t.now }
+        requires passed { Passed (nodes_of t.now used) from (slot_as node) }
+        ensures { Finds t.now used (slot_as node) result }
+    {
+        for k in from..used {
+            if node == table::node_at(t, k) {
+                return Some(k);
+            }
+        }
+        None
+    }
+
+    /// The slot of a node, if one of the used slots holds it: along the chain of its place, then past the slots that have a link.
+    pub fn seek(&self, t: &[Cell], used: usize, node: Node) -> Option<usize>
+        requires ready { Ready t.now self.now (record { used = used }) }
+        ensures { Finds t.now used (slot_as node) result }
+    {
+        let covered = self.heads.len();
+        if covered == 0 {
+            return Self::scan(t, 0, used, node);
+        }
+        let home = Self::home(covered, node);
+        let mut at = self.heads[home] as usize;
+        // a chain's next slot stands in its link, so no range says it
+        while 0 < at {
+            let k = at - 1;
+            if node == table::node_at(t, k) {
+                return Some(k);
+            }
+            at = self.links[k] as usize;
+        }
+        Self::scan(t, covered, used, node)
+    }
+
+    /// Slot k, a new one that holds this node, comes into the index, if it has a link.
+    pub fn cover(&mut self, k: usize, node: Node)
+        ensures index { Covers self.old.heads.now self.old.links.now k (slot_as node) self.new.heads.now self.new.links.now }
+        ensures memo { self.new.memo.now ≡ self.old.memo.now }
+    {
+        let covered = self.heads.len();
+        if covered <= k {
+            return;
+        }
+        let head = Self::home(covered, node);
+        self.links[k] = self.heads[head];
+        self.heads[head] = (k + 1) as u32;
+    }
+
+    /// What the memo is asked for an operation of three diagrams. A first diagram from 2,097,152 on fits into no entry: nothing
+    /// is remembered of it. No table has so many slots.
+    pub fn key(&self, operation: u32, a: Diagram, b: Diagram, c: Diagram) -> Key
+        requires { operation < 512 }
+        ensures { result ≡ key_of (length self.now.memo.now) operation a b c }
+    {
+        if 2097152 <= a.number() {
+            return Key {
+                first: 0,
+                b: b.number(),
+                c: c.number(),
+                place: self.memo.len(),
+            };
+        }
+        let first = (operation + 1) * 2097152 + a.number();
+        Key {
+            first,
+            b: b.number(),
+            c: c.number(),
+            place: place(self.memo.len(), first, b.number(), c.number(), 0),
+        }
+    }
+
+    /// The remembered result, if there is one.
+    pub fn recall(&self, key: Key) -> Option<Diagram>
+        ensures { IfSome result (Recalled self.now.memo.now key) }
+    {
+        if self.memo.len() <= key.place {
+            return None;
+        }
+        let [first, b, c, r] = self.memo[key.place];
+        if first != key.first {
+            return None;
+        }
+        if b != key.b {
+            return None;
+        }
+        if c != key.c {
+            return None;
+        }
+        Some(Diagram::new(r))
+    }
+
+    /// This operation of these diagrams gives r, from now on, if there is room for it.
+    pub fn remember(&mut self, key: Key, r: Diagram)
+        ensures memo { self.new.memo.now ≡ noted self.old.memo.now key r }
+        ensures index { (self.new.heads.now ≡ self.old.heads.now) × (self.new.links.now ≡ self.old.links.now) }
+    {
+        if self.memo.len() <= key.place {
+            return;
+        }
+        self.memo[key.place] = [key.first, key.b, key.c, r.number()];
     }
 }

@@ -1,121 +1,114 @@
--- Steps one after the other: what holds in a state still holds after some steps.
+-- Steps and pieces of work one after the other: what holds in a state still holds after some steps.
 use Prim.Native.Nat.{ℕ, ◌/◌, ◌≤◌}
 use native.Mathlib.Omega.{arith}
 use mathlib.Core.Path.{◌≡◌, refl, sym, ap, ◌∙◌}
-use mathlib.Core.Bool.{Bool, true, false, true≢false}
 use mathlib.Core.List.{List, [], ◌++◌}
-use lib.Dec.{ltb}
 use lib.ListN.{length}
-use borrow.Author.Tests.{ltb-true, lt-ltb, le-ltb}
+use Rattle.std.specs.Prelude.{Result, Ok, Err}
 use Rattle.meaning.specs.Diagram.{Tree}
 use Rattle.meaning.specs.Table.{enter_all}
+use Rattle.meaning.specs.Step.{Work, done, take, ◌>>=◌}
 use Rattle.meaning.proofs.Laws.Table.{is_ext, enter_again, enter_all_append, enter_all_ext, enter_all_grows}
-use Rattle.diagram.specs.State.{Alive, Known, Means, Stands, After, Gives, Ready, nodes}
+use Rattle.diagram.specs.State.{Known, Means, After, Lacks, Meaning, Does, Works, Ready, nodes}
 use Rattle.diagram.specs.declared.builder.Builder.{Builder}
+use Rattle.diagram.specs.declared.builder.Made.{Made}
+use Rattle.diagram.specs.declared.builder.NoRoom.{NoRoom}
+use Rattle.diagram.specs.declared.scratch.Scratch.{Scratch}
 use Rattle.diagram.proofs.Laws.Nodes.{nodes_of_length}
 
 -- the used slots are inside the table
-pub ready_room : {cells w : List ℕ} {b : Builder} → Ready cells w b → length (nodes cells b) ≤ length cells / 3
-ready_room {cells} {w} {b} ready = omega (arith, nodes_of_length cells b.used, ready.room)
+pub ready_room : {cells : List ℕ} {s : Scratch} {b : Builder} → Ready cells s b → length (nodes cells b) ≤ length cells / 3
+ready_room {cells} {s} {b} ready = omega (arith, nodes_of_length cells b.used, ready.room)
 
-pub after_nothing : (cells w : List ℕ) (b : Builder) → Alive cells w b → After cells w b [] cells w b
-after_nothing cells w b alive =
-    record {
-      kept = refl;
-      stays = λ full. full;
-      filled = λ free. free ∙ sym (le-ltb (length cells / 3) (length (nodes cells b)) (ready_room (alive free)));
-      entered = λ free. refl;
-      ready = alive;
-    }
+-- ---- steps
 
-module _ {cells w cells' w' : List ℕ} {b b' : Builder} {xs : List Tree} (p : After cells w b xs cells' w' b') where
-  -- a state with room came from one with room
-  pub after_free : b'.full ≡ false → b.full ≡ false
-  after_free free = go b.full refl
-    where
-      go : (full : Bool) → b.full ≡ full → full ≡ false
-      go true e = sym (p.stays e) ∙ free
-      go false e = refl
+pub after_nothing : {cells : List ℕ} {s : Scratch} {b : Builder} → Ready cells s b → After cells b [] cells s b
+after_nothing ready = record { kept = refl; entered = refl; ready = ready }
 
-  pub after_alive : Alive cells' w' b'
-  after_alive = p.ready
-
+module _ {cells cells' : List ℕ} {s' : Scratch} {b b' : Builder} {xs : List Tree} (p : After cells b xs cells' s' b') where
   pub after_means : {a : ℕ} {x : Tree} → Means cells b a x → Means cells' b' a x
-  after_means {a} {x} means free =
-      let before = means (after_free free) in
-      record {
-        is = rw (p.entered free) (is_ext x a (enter_all_ext xs (nodes cells b)) before.is);
-        good = before.good;
-      }
+  after_means {a} {x} means =
+      record { is = rw p.entered (is_ext x a (enter_all_ext xs (nodes cells b)) means.is); good = means.good }
 
   pub after_known : {a : ℕ} → Known b a → Known b' a
-  after_known known free =
-      let before = known (after_free free) in
+  after_known known =
       let grown = enter_all_grows xs (nodes cells b) in
-      omega (arith, nodes_of_length cells b.used, nodes_of_length cells' b'.used, ap length (p.entered free))
+      omega (arith, nodes_of_length cells b.used, nodes_of_length cells' b'.used, ap length p.entered)
 
 -- some steps, then some more
-pub after_then : {cells w cells' w' cells'' w'' : List ℕ} {b b' b'' : Builder} {xs ys : List Tree}
-    → After cells w b xs cells' w' b' → After cells' w' b' ys cells'' w'' b'' → After cells w b (xs ++ ys) cells'' w'' b''
-after_then {cells} {cells'} {b} {b'} {b''} {xs} {ys} p q =
+pub after_then : {cells c₁ c₂ : List ℕ} {s₁ s₂ : Scratch} {b b₁ b₂ : Builder} {xs ys : List Tree}
+    → After cells b xs c₁ s₁ b₁ → After c₁ b₁ ys c₂ s₂ b₂ → After cells b (xs ++ ys) c₂ s₂ b₂
+after_then {cells} {c₁} {b = b} {b₁ = b₁} {xs = xs} {ys} p q =
     record {
       kept = q.kept ∙ p.kept;
-      stays = λ full. q.stays (p.stays full);
-      filled = λ free. go b'.full refl free;
-      entered = λ free. q.entered free ∙ both (after_free q free);
+      entered = q.entered ∙ ap (enter_all ys) p.entered ∙ sym (enter_all_append xs ys (nodes cells b));
       ready = q.ready;
     }
-  where
-    both : b'.full ≡ false → enter_all ys (nodes cells' b') ≡ enter_all (xs ++ ys) (nodes cells b)
-    both free = ap (enter_all ys) (p.entered free) ∙ sym (enter_all_append xs ys (nodes cells b))
-
-    go : (full : Bool) → b'.full ≡ full → b.full ≡ false
-        → b''.full ≡ ltb (length cells / 3) (length (enter_all (xs ++ ys) (nodes cells b)))
-    go true e free =
-        let slots = length cells / 3 in
-        let middle = enter_all xs (nodes cells b) in
-        let over = ltb-true slots (length middle) (sym (p.filled free) ∙ e) in
-        let grown = enter_all_grows ys middle in
-        q.stays e ∙ sym (rw enter_all_append (lt-ltb slots (length (enter_all ys middle)) (omega arith)))
-    go false e free = q.filled e ∙ cc (p.kept, both e)
 
 -- other diagrams that enter the same
-pub after_same : {cells w cells' w' : List ℕ} {b b' : Builder} {xs ys : List Tree}
-    → (b.full ≡ false → enter_all xs (nodes cells b) ≡ enter_all ys (nodes cells b))
-    → After cells w b xs cells' w' b' → After cells w b ys cells' w' b'
-after_same {cells} {b} same p =
+pub after_same : {cells c₁ : List ℕ} {s₁ : Scratch} {b b₁ : Builder} {xs ys : List Tree}
+    → enter_all xs (nodes cells b) ≡ enter_all ys (nodes cells b) → After cells b xs c₁ s₁ b₁ → After cells b ys c₁ s₁ b₁
+after_same same p = record { kept = p.kept; entered = p.entered ∙ same; ready = p.ready }
+
+-- ---- no room
+
+-- what doesn't fit doesn't fit with more behind it
+pub lacks_more : {cells c₁ : List ℕ} {b : Builder} {xs : List Tree} (ys : List Tree) → Lacks cells b xs c₁
+    → Lacks cells b (xs ++ ys) c₁
+lacks_more {cells} {b = b} {xs = xs} ys p =
+    let grown = enter_all_grows ys (enter_all xs (nodes cells b)) in
+    record { kept = p.kept; over = rw enter_all_append (omega (arith, p.over, grown)) }
+
+-- nor with something before it
+pub lacks_then : {cells c₁ c₂ : List ℕ} {s₁ : Scratch} {b b₁ : Builder} {xs ys : List Tree} → After cells b xs c₁ s₁ b₁
+    → Lacks c₁ b₁ ys c₂ → Lacks cells b (xs ++ ys) c₂
+lacks_then {cells} {c₁} {b = b} {b₁ = b₁} {xs = xs} {ys} p q =
     record {
-      kept = p.kept;
-      stays = p.stays;
-      filled = λ free. rw (same free) at (p.filled free);
-      entered = λ free. p.entered free ∙ same (after_free p free);
-      ready = p.ready;
+      kept = q.kept ∙ p.kept;
+      over = rw (enter_all_append, ← p.entered, ← p.kept) q.over;
     }
 
--- ---- one diagram
+pub lacks_same : {cells c₁ : List ℕ} {b : Builder} {xs ys : List Tree}
+    → enter_all xs (nodes cells b) ≡ enter_all ys (nodes cells b) → Lacks cells b xs c₁ → Lacks cells b ys c₁
+lacks_same same p = record { kept = p.kept; over = rw (← same) p.over }
 
--- nothing more enters a full table
-pub gives_full : (cells w : List ℕ) (b : Builder) (x : Tree) (r : ℕ) → b.full ≡ true → Gives cells w b x cells w b r
-gives_full cells w b x r full =
-    record {
-      after =
-          record {
-            kept = refl;
-            stays = λ still. still;
-            filled = λ free. absurd (true≢false (sym full ∙ free));
-            entered = λ free. absurd (true≢false (sym full ∙ free));
-            ready = λ free. absurd (true≢false (sym full ∙ free));
-          };
-      means = λ free. absurd (true≢false (sym full ∙ free));
-    }
+-- ---- pieces of work
+
+-- no step
+pub works_done : {A B : Type 0} {Stand : Meaning A B} {cells : List ℕ} {s : Scratch} {b : Builder} {a : A} {v : B}
+    → Ready cells s b → Stand cells b a v → Works Stand cells b (done v) cells s (Ok (record { at = b; value = a }))
+works_done ready stand = record { after = after_nothing ready; means = stand }
+
+-- one piece of work was done, then another one
+pub does_then : {A B A' B' : Type 0} {Stand : Meaning A B} {Stand' : Meaning A' B'} {cells c₁ c₂ : List ℕ} {s₁ s₂ : Scratch}
+    {b : Builder} {m : Work B} {n : Work B'} {made : Made A} {last : Made A'} → Does Stand cells b m c₁ s₁ made
+    → Does Stand' c₁ made.at n c₂ s₂ last
+    → Does Stand' cells b (record { value = n.value; steps = m.steps ++ n.steps }) c₂ s₂ last
+does_then p q = record { after = after_then p.after q.after; means = q.means }
+
+-- the same where the second may lack room
+pub works_then : {A B A' B' : Type 0} {Stand : Meaning A B} {cells c₁ : List ℕ} {s₁ : Scratch} {b : Builder} {m : Work B}
+    {made : Made A} (Stand' : Meaning A' B') (f : B → Work B') (c₂ : List ℕ) (s₂ : Scratch) (r : Result (Made A') NoRoom)
+    → Does Stand cells b m c₁ s₁ made → Works Stand' c₁ made.at (f m.value) c₂ s₂ r
+    → Works Stand' cells b (◌>>=◌ m f) c₂ s₂ r
+works_then Stand' f c₂ s₂ (Ok last) p q = does_then p q
+works_then Stand' f c₂ s₂ (Err e) p q = lacks_then p.after q
+
+-- work that enters the same, for the same value
+pub works_same : {A B : Type 0} (Stand : Meaning A B) (cells : List ℕ) (b : Builder) (m n : Work B) (c₁ : List ℕ) (s₁ : Scratch)
+    (r : Result (Made A) NoRoom) → m.value ≡ n.value
+    → enter_all m.steps (nodes cells b) ≡ enter_all n.steps (nodes cells b) → Works Stand cells b m c₁ s₁ r
+    → Works Stand cells b n c₁ s₁ r
+works_same Stand cells b m n c₁ s₁ (Ok made) value same p =
+    record { after = after_same same p.after; means = rw (← value) p.means }
+works_same Stand cells b m n c₁ s₁ (Err e) value same p = lacks_same same p
 
 -- a diagram that is there enters nothing
-pub gives_there : {cells w : List ℕ} {b : Builder} {x : Tree} {r : ℕ} → Ready cells w b → Stands (nodes cells b) r x
-    → Gives cells w b x cells w b r
-gives_there {cells} {w} {b} {x} {r} ready stands =
+pub works_there : {cells : List ℕ} {s : Scratch} {b : Builder} {x : Tree} {a : ℕ} → Ready cells s b → Means cells b a x
+    → Works Means cells b (take x) cells s (Ok (record { at = b; value = a }))
+works_there {cells} {s} {b} {x} {a} ready means =
     record {
       after =
-          after_same (λ free. sym (enter_again x (nodes cells b) r ready.single stands.is).1)
-          (after_nothing cells w b (λ free. ready));
-      means = λ free. stands;
+          after_same (sym (enter_again x (nodes cells b) a ready.single means.is).1) (after_nothing ready);
+      means = means;
     }

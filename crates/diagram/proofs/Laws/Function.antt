@@ -12,13 +12,13 @@ use native.Mathlib.Omega.{arith}
 use mathlib.Core.Path.{◌≡◌, refl, sym, ap, ◌∙◌}
 use mathlib.Core.Bool.{Bool, true, false, cond, not, ◌&&◌, ◌||◌, beq, false≢true, and-eq-true_iff}
 use mathlib.Core.Logic.{◌⊎◌, inl, inr}
-use lib.Bits.{bit_and, and_le_l}
+use lib.Bits.{bit_and, and_le_r}
 use lib.Dec.{eqb, ltb}
 use borrow.Author.Tests.{eqb-true, eqb-false, ltb-true}
 use Rattle.meaning.specs.Number.{odd, digit}
 use Rattle.meaning.specs.Step.{Function}
-use Rattle.diagram.specs.Function.{table_of, evaluate, Terminal, Shorter, Answers, paired, equal_of, kept_of}
-use Rattle.diagram.specs.declared.function.Asked.{Asked}
+use Rattle.diagram.specs.Function.{table_of, evaluate, Terminal, Shorter, AnsweredBy, paired, equal_of, kept_of}
+use Rattle.diagram.specs.declared.function.Question.{Question}
 
 -- ---- tests
 
@@ -92,22 +92,22 @@ abbrev pub always : Function
 always a b c = true
 
 -- number n is true where s of q's operands is
-pub record Picks (q : Asked) (s : Function) (n : ℕ) : Type 0 where
+pub record Picks (q : Question) (s : Function) (n : ℕ) : Type 0 where
   pub is : (v : ℕ → Bool) → Terminal v → v n ≡ s (v q.a) (v q.b) (v q.c)
 
-pub is_a : {q : Asked} → Picks q first q.a
+pub is_a : {q : Question} → Picks q first q.a
 is_a = record { is = λ v k. refl }
 
-pub is_b : {q : Asked} → Picks q second q.b
+pub is_b : {q : Question} → Picks q second q.b
 is_b = record { is = λ v k. refl }
 
-pub is_c : {q : Asked} → Picks q third q.c
+pub is_c : {q : Question} → Picks q third q.c
 is_c = record { is = λ v k. refl }
 
-pub is_0 : {q : Asked} → Picks q never 0
+pub is_0 : {q : Question} → Picks q never 0
 is_0 = record { is = λ v k. k.falsehood }
 
-pub is_1 : {q : Asked} → Picks q always 1
+pub is_1 : {q : Question} → Picks q always 1
 is_1 = record { is = λ v k. k.truth }
 
 -- ---- two equal numbers
@@ -132,16 +132,16 @@ rewritten_at s t low high d passed f lt =
     (ltb-true g 256 both.0, same)
 
 -- table g in place of q's asks the same of q's operands
-pub record Same (q : Asked) (g : ℕ) : Type 0 where
+pub record Same (q : Question) (g : ℕ) : Type 0 where
   pub small : g < 256
   pub same : (v : ℕ → Bool) → Terminal v → table_of g (v q.a) (v q.b) (v q.c) ≡ evaluate q v
 
-pub same_start : (q : Asked) → q.f < 256 → Same q q.f
+same_start : (q : Question) → q.f < 256 → Same q q.f
 unfolding evaluate
 same_start q lt = record { small = lt; same = λ v k. refl }
 
 pub same_equal :
-    (s t : Function) (low high d : ℕ) {q : Asked} {g r x y : ℕ} → Picks q s x → Picks q t y → Same q g →
+    (s t : Function) (low high d : ℕ) {q : Question} {g r x y : ℕ} → Picks q s x → Picks q t y → Same q g →
     r ≡ equal_of g x y low high d → every (rewritten s t low high d) 256 ≡ true → Same q r
 unfolding equal_of
 same_equal s t low high d {q} {g} {r} {x} {y} is_x is_y before made passed = go (eqb x y) refl
@@ -159,42 +159,53 @@ same_equal s t low high d {q} {g} {r} {x} {y} is_x is_y before made passed = go 
 
 -- each of `shorten`'s nine rewritings: an operand that is 0, one that is 1, two that are equal
 
-module _ {q : Asked} {g r : ℕ} (before : Same q g) where
-  pub false_a : r ≡ equal_of g q.a 0 15 0 16 → Same q r
+module _ {q : Question} {g r : ℕ} (before : Same q g) where
+  false_a : r ≡ equal_of g q.a 0 15 0 16 → Same q r
   unfolding rewritten table_of paired
   false_a made = same_equal first never 15 0 16 is_a is_0 before made refl
 
-  pub true_a : r ≡ equal_of g q.a 1 0 240 16 → Same q r
+  true_a : r ≡ equal_of g q.a 1 0 240 16 → Same q r
   unfolding rewritten table_of paired
   true_a made = same_equal first always 0 240 16 is_a is_1 before made refl
 
-  pub false_b : r ≡ equal_of g q.b 0 51 0 4 → Same q r
+  false_b : r ≡ equal_of g q.b 0 51 0 4 → Same q r
   unfolding rewritten table_of paired
   false_b made = same_equal second never 51 0 4 is_b is_0 before made refl
 
-  pub true_b : r ≡ equal_of g q.b 1 0 204 4 → Same q r
+  true_b : r ≡ equal_of g q.b 1 0 204 4 → Same q r
   unfolding rewritten table_of paired
   true_b made = same_equal second always 0 204 4 is_b is_1 before made refl
 
-  pub false_c : r ≡ equal_of g q.c 0 85 0 2 → Same q r
+  false_c : r ≡ equal_of g q.c 0 85 0 2 → Same q r
   unfolding rewritten table_of paired
   false_c made = same_equal third never 85 0 2 is_c is_0 before made refl
 
-  pub true_c : r ≡ equal_of g q.c 1 0 170 2 → Same q r
+  true_c : r ≡ equal_of g q.c 1 0 170 2 → Same q r
   unfolding rewritten table_of paired
   true_c made = same_equal third always 0 170 2 is_c is_1 before made refl
 
-  pub equal_ab : r ≡ equal_of g q.a q.b 3 192 4 → Same q r
+  equal_ab : r ≡ equal_of g q.a q.b 3 192 4 → Same q r
   unfolding rewritten table_of paired
   equal_ab made = same_equal first second 3 192 4 is_a is_b before made refl
 
-  pub equal_ac : r ≡ equal_of g q.a q.c 5 160 2 → Same q r
+  equal_ac : r ≡ equal_of g q.a q.c 5 160 2 → Same q r
   unfolding rewritten table_of paired
   equal_ac made = same_equal first third 5 160 2 is_a is_c before made refl
 
-  pub equal_bc : r ≡ equal_of g q.b q.c 17 136 2 → Same q r
+  equal_bc : r ≡ equal_of g q.b q.c 17 136 2 → Same q r
   unfolding rewritten table_of paired
   equal_bc made = same_equal second third 17 136 2 is_b is_c before made refl
+
+-- the nine of them, one after the other
+pub all_equal : {q : Question} {f₁ f₂ f₃ f₄ f₅ f₆ f₇ f₈ f₉ : ℕ} → q.f < 256
+    → f₁ ≡ equal_of q.f q.a 0 15 0 16 → f₂ ≡ equal_of f₁ q.a 1 0 240 16
+    → f₃ ≡ equal_of f₂ q.b 0 51 0 4 → f₄ ≡ equal_of f₃ q.b 1 0 204 4
+    → f₅ ≡ equal_of f₄ q.c 0 85 0 2 → f₆ ≡ equal_of f₅ q.c 1 0 170 2
+    → f₇ ≡ equal_of f₆ q.a q.b 3 192 4 → f₈ ≡ equal_of f₇ q.a q.c 5 160 2 → f₉ ≡ equal_of f₈ q.b q.c 17 136 2 → Same q f₉
+all_equal {q} small p₁ p₂ p₃ p₄ p₅ p₆ p₇ p₈ p₉ =
+    equal_bc
+    (equal_ac (equal_ab (true_c (false_c (true_b (false_b (true_a (false_a (same_start q small) p₁) p₂) p₃) p₄) p₅) p₆) p₇) p₈)
+    p₉
 
 -- ---- an operand that the function doesn't look at
 
@@ -237,7 +248,7 @@ unfolding idle table_of
 idle_c = refl
 
 pub shorter :
-    {q : Asked} {g a b c : ℕ} → Same q g → a ≡ kept_of g q.a 15 16 → b ≡ kept_of g q.b 51 4 → c ≡ kept_of g q.c 85 2 →
+    {q : Question} {g a b c : ℕ} → Same q g → a ≡ kept_of g q.a 15 16 → b ≡ kept_of g q.b 51 4 → c ≡ kept_of g q.c 85 2 →
     Shorter q (record { f = g; a = a; b = b; c = c })
 unfolding evaluate
 shorter {q} {g} s is_a is_b is_c =
@@ -272,52 +283,39 @@ terminal_odd {v} n k = go (odd n) refl
         ap v is ∙ k.falsehood
 
 -- number n is a terminal or one of q's operands
-abbrev From : Asked → ℕ → Type 0
+abbrev From : Question → ℕ → Type 0
 From q n = (n < 2) ⊎ ((n ≡ q.a) ⊎ ((n ≡ q.b) ⊎ (n ≡ q.c)))
-
-answer :
-    {q : Asked} {n : ℕ} → ((v : ℕ → Bool) → Terminal v → evaluate q v ≡ v n) → From q n →
-    Answers q (record { done = true; number = n })
-answer same from =
-    record { same = λ e. same; from = λ e. from; left = λ e. absurd (false≢true (sym e)) }
 
 -- the table is that of a constant or of an operand
 pub answer_pick :
-    (s : Function) {q : Asked} {n f : ℕ} → Picks q s n → From q n → q.f ≡ f → agree (table_of f) s ≡ true →
-    Answers q (record { done = true; number = n })
+    (s : Function) {q : Question} {n f : ℕ} → Picks q s n → From q n → q.f ≡ f → agree (table_of f) s ≡ true →
+    AnsweredBy q n
 unfolding evaluate
 answer_pick s {q} {n} {f} is_n from is_f passed =
-    let same : (v : ℕ → Bool) → Terminal v → evaluate q v ≡ v n =
-    λ v k.
-    ap (λ g. table_of g (v q.a) (v q.b) (v q.c)) is_f ∙ agreed (table_of f) s passed _ _ _ ∙ sym (is_n.is v k) in
-    answer same from
+    record {
+      same = λ v k.
+          ap (λ g. table_of g (v q.a) (v q.b) (v q.c)) is_f ∙ agreed (table_of f) s passed _ _ _ ∙ sym (is_n.is v k);
+      from = from;
+    }
 
 -- all operands are terminals
 pub answer_row :
-    (q : Asked) → q.a < 2 → q.b < 2 → q.c < 2 →
-    Answers q (record { done = true; number = q.f / 2 ^ (4 * q.a + 2 * q.b + q.c) % 2 })
+    (q : Question) → q.a < 2 → q.b < 2 → q.c < 2 → AnsweredBy q (q.f / 2 ^ (4 * q.a + 2 * q.b + q.c) % 2)
 unfolding evaluate table_of
 answer_row q a b c =
-    answer
-    (λ v k.
-    rw (terminal_digit q.a k a, terminal_digit q.b k b, terminal_digit q.c k c)
-    (sym (terminal_odd (q.f / 2 ^ (4 * q.a + 2 * q.b + q.c)) k)))
-    (inl (omega arith))
-
-pub no_answer :
-    {q : Asked} → (2 ≤ q.a) ⊎ ((2 ≤ q.b) ⊎ (2 ≤ q.c)) → Answers q (record { done = false; number = 0 })
-no_answer left =
-    record { same = λ e. absurd (false≢true e); from = λ e. absurd (false≢true e); left = λ e. left }
+    record {
+      same = λ v k.
+          rw (terminal_digit q.a k a, terminal_digit q.b k b, terminal_digit q.c k c)
+          (sym (terminal_odd (q.f / 2 ^ (4 * q.a + 2 * q.b + q.c)) k));
+      from = inl (omega arith);
+    }
 
 -- ---- numbers that fit
 
-taken_le : (f low high d : ℕ) → f < 256 → bit_and f low + bit_and f high / d ≤ 510
-taken_le f low high d lt = omega (arith, and_le_l f low, and_le_l f high, div-le_self (bit_and f high) d)
-
-pub taken_lt : (f low high d : ℕ) → f < 256 → bit_and f low + bit_and f high / d < 4294967296
-taken_lt f low high d lt = omega (arith, taken_le f low high d lt)
-
-pub paired_lt : (f low high d : ℕ) → f < 256 → d ≤ 16 → (bit_and f low + bit_and f high / d) * (d + 1) < 4294967296
-paired_lt f low high d lt le =
+pub paired_lt : (f low high d : ℕ) → low < 256 → high < 256 → d ≤ 16
+    → (bit_and f low + bit_and f high / d) * (d + 1) < 4294967296
+paired_lt f low high d low_lt high_lt le =
+    let taken : bit_and f low + bit_and f high / d ≤ 510 =
+    omega (arith, and_le_r f low, and_le_r f high, div-le_self (bit_and f high) d) in
     let most : d + 1 ≤ 17 = omega arith in
-    omega (arith, mul-le-mul (taken_le f low high d lt) most)
+    omega (arith, mul-le-mul taken most)

@@ -1,14 +1,8 @@
 -- Laws of places in scratch.
-use Prim.Native.Nat.{ℕ, ◌*◌, ◌%◌, ◌≤◌, ◌<◌}
-use native.Mathlib.Nat.{mul-le-mul_right, mul-lt-mul_of_pos_right, div-lt_iff_lt-mul}
+use Prim.Native.Nat.{ℕ, ◌*◌, ◌%◌, ◌<◌}
+use native.Mathlib.Nat.{mul-lt-mul_of_pos_right, div-lt_iff_lt-mul}
 use native.Mathlib.Omega.{arith}
 use Rattle.diagram.specs.Hash.{spread, place_of}
-
--- a mixed number times as many places fits 64 bits
-pub spread_fits : (sum size : ℕ) → size ≤ 16777216 → sum % 4294967296 * size < 18446744073709551616
-spread_fits sum size le =
-    let most : sum % 4294967296 ≤ 4294967295 = omega arith in
-    omega (arith, mul-le-mul_right size most)
 
 pub spread_lt : (sum size : ℕ) → 0 < size → spread (sum % 4294967296) size < size
 spread_lt sum size some =

@@ -4,21 +4,23 @@ use native.Mathlib.Omega.{arith}
 use native.Mathlib.Numerals.{add-one}
 use mathlib.Core.Path.{◌≡◌, refl, sym, ap, ◌∙◌}
 use mathlib.Core.Logic.{◌≢◌}
-use mathlib.Core.Bool.{Bool, true, false, cond, true≢false}
+use mathlib.Core.Bool.{Bool, true, false, cond}
 use mathlib.Core.List.{List, [], ◌∷◌, ◌++◌}
 use lib.ListN.{length, length-append}
-use borrow.Author.Tests.{lt-ltb, le-ltb}
 use Rattle.meaning.specs.Diagram.{Tree, node, same, mk}
 use Rattle.meaning.specs.Table.{Node, slot, Table, slot_of, insert, enter}
+use Rattle.meaning.specs.Step.{take}
 use Rattle.meaning.proofs.Laws.Shape.{Ok, Good}
 use Rattle.meaning.proofs.Laws.Diagram.{same_eq, mk_same, mk_ok, ok_good}
 use Rattle.meaning.proofs.Laws.Table.{Is, Single, Inserted, old, new, insert_cases, is_one, is_number}
 use Rattle.meaning.proofs.Laws.Table.{enter_is, enter_again, enter_single, enter_falls, enter_levels}
-use Rattle.diagram.specs.Scratch.{covering}
-use Rattle.diagram.specs.State.{Ready, New, Means, Gives, nodes, nodes_of, placed}
+use Rattle.diagram.specs.Scratch.{Covers}
+use Rattle.diagram.specs.State.{Ready, Means, Lacks, Does, nodes}
+use Rattle.diagram.specs.Table.{nodes_of, placed}
 use Rattle.diagram.specs.declared.builder.Builder.{Builder}
+use Rattle.diagram.specs.declared.scratch.Scratch.{Scratch}
 use Rattle.diagram.proofs.Laws.Nodes.{nodes_of_length, nodes_of_placed, placed_length}
-use Rattle.diagram.proofs.Laws.After.{gives_there}
+use Rattle.diagram.proofs.Laws.After.{works_there}
 use Rattle.diagram.proofs.Laws.Grow.{right_grown}
 
 -- t enters as x, at the end
@@ -60,13 +62,16 @@ module _ (T : Table) (level low high : ℕ) (d e : Tree) (single : Single T) (is
       go (old p q) = absurd (omega arith)
       go (new p q) = (mk_enters.0 ∙ ap (λ n. n + 2) p, mk_enters.1 ∙ q)
 
--- ---- the builder's paths, while there is room
+-- ---- the builder's paths
 
-module _ {cells w : List ℕ} {b : Builder} {level low high : ℕ} (ready : Ready cells w b) (free : b.full ≡ false)
-    (below : level < 128) {d e : Tree} (ok_d : Ok (level + 1) 128 d) (ok_e : Ok (level + 1) 128 e)
-    (means_d : Means cells b low d) (means_e : Means cells b high e) where
+module _ {cells : List ℕ} {s : Scratch} {b : Builder} {level low high : ℕ} (ready : Ready cells s b) (below : level < 128)
+    {d e : Tree} (ok_d : Ok (level + 1) 128 d) (ok_e : Ok (level + 1) 128 e) (means_d : Means cells b low d)
+    (means_e : Means cells b high e) where
   abbrev T : Table
   T = nodes cells b
+
+  abbrev x : Node
+  x = slot level low high
 
   ok : Ok level 128 (mk level d e)
   ok = mk_ok level 128 d e below (rw (add-one level) at ok_d) (rw (add-one level) at ok_e)
@@ -74,78 +79,56 @@ module _ {cells w : List ℕ} {b : Builder} {level low high : ℕ} (ready : Read
   good : Good 128 (mk level d e)
   good = ok_good level 128 (mk level d e) ok
 
-  left : Is T low d
-  left = (means_d free).is
-
-  right : Is T high e
-  right = (means_e free).is
-
   -- equal parts are their own node
-  pub node_same : low ≡ high → Gives cells w b (mk level d e) cells w b low
+  pub node_same : low ≡ high → Does Means cells b (take (mk level d e)) cells s (record { at = b; value = low })
   node_same one =
-      let trees : d ≡ e = is_one d e T low left (rw (sym one) at right) in
+      let trees : d ≡ e = is_one d e T low means_d.is (rw (sym one) at means_e.is) in
       let part : mk level d e ≡ d = ap (mk level d) (sym trees) ∙ mk_same level d in
-      gives_there ready (record { is = rw part left; good = good })
+      works_there ready (record { is = rw part means_d.is; good = good })
 
-  pub node_found : (k r : ℕ) → low ≢ high → k ≡ slot_of (slot level low high) T → k < b.used → r ≡ k + 2
-      → Gives cells w b (mk level d e) cells w b r
-  node_found k r differ at inside number =
-      let within : slot_of (slot level low high) T < length T = omega (arith, nodes_of_length cells b.used) in
-      let there = mk_there T level low high d e ready.single left right differ within in
-      gives_there ready (record { is = rw (number, at) there; good = good })
+  pub node_found : (k r : ℕ) → low ≢ high → (k < b.used) × (k ≡ slot_of x T) → r ≡ k + 2
+      → Does Means cells b (take (mk level d e)) cells s (record { at = b; value = r })
+  node_found k r differ found number =
+      let within : slot_of x T < length T = omega (arith, found.0, found.1, nodes_of_length cells b.used) in
+      let there = mk_there T level low high d e ready.single means_d.is means_e.is differ within in
+      works_there ready (record { is = rw (number, found.1) there; good = good })
 
-  module _ (differ : low ≢ high) (out : b.used ≤ slot_of (slot level low high) T) where
-    grown : Last T (slot level low high) (mk level d e)
+  module _ (differ : low ≢ high) (out : b.used ≡ slot_of x T) where
+    grown : Last T x (mk level d e)
     grown =
-        mk_new T level low high d e ready.single left right differ (omega (arith, nodes_of_length cells b.used))
+        mk_new T level low high d e ready.single means_d.is means_e.is differ
+        (omega (arith, out, nodes_of_length cells b.used))
 
     grown_length : length (enter (mk level d e) T).table ≡ b.used + 1
     grown_length =
-        ap length grown.1 ∙ length-append T (slot level low high ∷ [])
-        ∙ ap (λ n. n + 1) (nodes_of_length cells b.used)
+        ap length grown.1 ∙ length-append T (x ∷ []) ∙ ap (λ n. n + 1) (nodes_of_length cells b.used)
 
-    pub node_filled : (r : ℕ) → length cells / 3 ≤ b.used
-        → Gives cells w b (mk level d e) cells w
-        (record { used = b.used; full = true; covered = b.covered; memo = b.memo }) r
-    node_filled r over =
-        record {
-          after =
-              record {
-                kept = refl;
-                stays = λ full. refl;
-                filled = λ before. sym (rw grown_length (lt-ltb (length cells / 3) (b.used + 1) (omega arith)));
-                entered = λ never. absurd (true≢false never);
-                ready = λ never. absurd (true≢false never);
-              };
-          means = λ never. absurd (true≢false never);
-        }
+    pub node_lacks : length cells / 3 ≤ b.used → Lacks cells b (mk level d e ∷ []) cells
+    node_lacks full = record { kept = refl; over = omega (arith, grown_length) }
 
-    pub node_added : (cells' w' : List ℕ) (r : ℕ) → b.used < length cells / 3
+    pub node_added : {cells' : List ℕ} {s' : Scratch} {r : ℕ} → b.used < length cells / 3
         → cells' ≡ placed cells b.used level low high
-        → w' ≡ covering w b.covered b.used (slot level low high) → r ≡ b.used + 2
-        → Gives cells w b (mk level d e) cells' w'
-        (record { used = b.used + 1; full = false; covered = b.covered; memo = b.memo }) r
-    node_added cells' w' r room put cover number =
+        → Covers s.heads.now s.links.now b.used x s'.heads.now s'.links.now → s'.memo.now ≡ s.memo.now → r ≡ b.used + 2
+        → Does Means cells b (take (mk level d e)) cells' s' (record { at = record { used = b.used + 1 }; value = r })
+    node_added {cells'} {s'} {r} room put covers memo number =
         record {
           after =
               record {
                 kept = long;
-                stays = λ full. absurd (true≢false (sym full ∙ free));
-                filled = λ before. sym (rw grown_length (le-ltb (length cells / 3) (b.used + 1) (omega arith)));
-                entered = λ still. entered;
-                ready = λ still.
+                entered = entered;
+                ready =
                     record {
                       room = omega (arith, long);
                       small = omega (arith, long, ready.small);
                       single = rw entered (enter_single (mk level d e) T ready.single);
                       falls = rw entered (enter_falls (mk level d e) level 128 T ok ready.falls);
                       levels = rw entered (enter_levels (mk level d e) level 128 T ok ready.levels);
-                      right = rw (entered, grown.1, cover)
-                          (rw (nodes_of_length cells b.used)
-                          at (right_grown T w b (slot level low high) (b.used + 1) false ready.falls ready.right));
+                      right =
+                          rw (entered, grown.1)
+                          (right_grown ready.falls ready.right (rw (nodes_of_length cells b.used) covers) memo);
                     };
               };
-          means = λ still. record { is = rw (entered, named) (enter_is (mk level d e) T); good = good };
+          means = record { is = rw (entered, named) (enter_is (mk level d e) T); good = good };
         }
       where
         long : length cells' ≡ length cells
@@ -158,8 +141,3 @@ module _ {cells w : List ℕ} {b : Builder} {level low high : ℕ} (ready : Read
 
         named : r ≡ (enter (mk level d e) T).number
         named = number ∙ ap (λ n. n + 2) (sym (nodes_of_length cells b.used)) ∙ sym grown.0
-
--- a node that no slot holds is new
-pub node_new : {cells : List ℕ} {b : Builder} {level low high : ℕ} → b.full ≡ false → level < 128 → low ≢ high
-    → (k : ℕ) → k ≡ slot_of (slot level low high) (nodes cells b) → b.used ≤ k → New cells b level low high
-node_new free below differ k at out = record { free = free; below = below; differ = differ; out = rw (sym at) out }

@@ -11,7 +11,7 @@ use Rattle.meaning.specs.Table.{slot, Table}
 use Rattle.meaning.specs.Lent.{node_at}
 use Rattle.meaning.proofs.Laws.Number.{each_same, up_to_length, up_to_at}
 use Rattle.meaning.proofs.Laws.Table.{none}
-use Rattle.diagram.specs.State.{Inside, placed, nodes_of}
+use Rattle.diagram.specs.Table.{Inside, placed, nodes_of}
 
 pub nodes_of_none : (cells : List ℕ) → nodes_of cells 0 ≡ []
 unfolding nodes_of

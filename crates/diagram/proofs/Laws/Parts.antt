@@ -24,8 +24,10 @@ use Rattle.meaning.proofs.Laws.Apply.{top_level}
 use Rattle.meaning.proofs.Laws.Table.{slot_at, Is, Single, Falling, is_one, is_number}
 use Rattle.meaning.proofs.Laws.Table.{is_ext, enter_ext, enter_is, enter_again, enter_single}
 use Rattle.meaning.proofs.Laws.Lent.{lent_at}
-use Rattle.diagram.specs.State.{nodes, Ready, Stands, Readable, top_of, part_of, parts_of}
+use Rattle.diagram.specs.State.{nodes, Ready, Stands}
+use Rattle.diagram.specs.Table.{top_of, part_of, parts_of}
 use Rattle.diagram.specs.declared.builder.Builder.{Builder}
+use Rattle.diagram.specs.declared.scratch.Scratch.{Scratch}
 use Rattle.diagram.proofs.Laws.Nodes.{nodes_of_length, nodes_of_at}
 
 -- ---- entering
@@ -94,7 +96,7 @@ third i j k p q = omega arith
 abbrev child : Bool → Node → ℕ
 child v x = cond v (high_of x) (low_of x)
 
-module _ {cells w : List ℕ} {b : Builder} (ready : Ready cells w b) where
+module _ {cells : List ℕ} {s : Scratch} {b : Builder} (ready : Ready cells s b) where
   slot_at_lem : (a : ℕ) → 2 ≤ a → a < b.used + 2 → slot_at (nodes cells b) a ≡ lent_at cells a
   slot_at_lem a big inside = nodes_of_at cells b.used (a - 2) (omega arith)
 
@@ -227,9 +229,6 @@ module _ {cells w : List ℕ} {b : Builder} (ready : Ready cells w b) where
       sym (tree_one (part_of cells v l a) (part v l (tree_of cells a)) stands)
 
   -- ---- numbers
-
-  pub readable : (a : ℕ) → a < b.used + 2 → Readable cells a
-  readable a inside big = omega (arith, ready.room)
 
   -- no part's number is larger
   pub part_le : (v : Bool) (l a : ℕ) → a < b.used + 2 → part_of cells v l a ≤ a

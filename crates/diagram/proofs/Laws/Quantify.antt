@@ -1,31 +1,39 @@
 -- The quantifier step on numbers: no such level, the level itself, remembered, or split at a level before it.
 use Prim.Native.Nat.{ℕ, suc, ◌+◌, ◌-◌, ◌≤◌, ◌<◌}
 use native.Mathlib.Omega.{arith}
-use mathlib.Core.Path.{◌≡◌, refl, sym, ap, ◌∙◌}
+use mathlib.Core.Path.{◌≡◌, refl, sym, ap, subst, ◌∙◌}
 use mathlib.Core.Bool.{Bool, true, false, cond}
 use mathlib.Core.List.{List}
 use borrow.Author.Tests.{lt-ltb, le-ltb, eq-eqb}
+use Rattle.std.specs.Prelude.{Result, Ok, Err}
 use Rattle.meaning.specs.Diagram.{Tree, leaf, node, holds, mk}
-use Rattle.meaning.specs.Step.{Function, step_tree, quantify_tree, unused}
+use Rattle.meaning.specs.Step.{Function, step, quantify, step_tree, quantify_tree, take, unused}
 use Rattle.meaning.specs.Witness.{part}
 use Rattle.meaning.specs.Lent.{tree_of}
-use Rattle.meaning.proofs.Laws.Shape.{Ok, Good}
+use Rattle.meaning.proofs.Laws.Shape as Shape
+use Rattle.meaning.proofs.Laws.Shape.{Good}
 use Rattle.meaning.proofs.Laws.Diagram.{ok_good}
 use Rattle.meaning.proofs.Laws.Apply.{top_level, step_function}
 use Rattle.meaning.proofs.Laws.Apply.{quantify_ok, quantify_above, quantify_here, quantify_split}
 use Rattle.diagram.specs.Function.{table_of}
-use Rattle.diagram.specs.Scratch.{operation, Recalled}
-use Rattle.diagram.specs.State.{Alive, Ready, Known, Means, After, Gives, Joins, top_of, part_of, noted, chooser}
+use Rattle.diagram.specs.Scratch.{operation, Recalled, key_of, noted}
+use Rattle.diagram.specs.State.{Ready, Known, Means, After, Works, Joins, chooser}
+use Rattle.diagram.specs.Table.{top_of, part_of, halves_of}
 use Rattle.diagram.specs.declared.builder.Builder.{Builder}
-use Rattle.diagram.proofs.Laws.After.{after_nothing, after_means, gives_there}
+use Rattle.diagram.specs.declared.builder.Made.{Made}
+use Rattle.diagram.specs.declared.builder.NoRoom.{NoRoom}
+use Rattle.diagram.specs.declared.scratch.Scratch.{Scratch}
+use Rattle.diagram.specs.declared.scratch.Key.{Key}
+use Rattle.diagram.specs.declared.table.Halves.{Halves}
+use Rattle.diagram.proofs.Laws.After.{after_nothing, after_means, works_there}
 use Rattle.diagram.proofs.Laws.Parts.{tree_stands, tree_one, tree_good, tree_top, tree_ok, tree_part, part_falls}
-use Rattle.diagram.proofs.Laws.Gives.{gives_mk, operation_of, gives_noted, recalled_stands}
+use Rattle.diagram.proofs.Laws.Enters.{Enters, low_lacks, high_lacks, works_mk, operation_of, enters_noted, recalled_stands}
 use Rattle.diagram.proofs.Laws.Step.{Steps}
 
 -- what a quantifier step does
-abbrev pub Quantifies : List ℕ → List ℕ → Builder → Bool → ℕ → ℕ → List ℕ → List ℕ → Builder → ℕ → Type 0
-Quantifies cells w b every l n cells' w' b' r =
-    (x : Tree) → Means cells b n x → Gives cells w b (quantify_tree 128 (chooser every) l x) cells' w' b' r
+abbrev pub Quantifies : List ℕ → Builder → Bool → ℕ → ℕ → List ℕ → Scratch → Result (Made ℕ) NoRoom → Type 0
+Quantifies cells b every l n cells' s' made =
+    (x : Tree) → Means cells b n x → Works Means cells b (quantify 128 (chooser every) l x) cells' s' made
 
 -- its diagram
 abbrev pub quantify_of : List ℕ → Bool → ℕ → ℕ → Tree
@@ -55,15 +63,7 @@ chooser_table false true false = refl
 chooser_table false false true = refl
 chooser_table false false false = refl
 
-table_small : (f : ℕ) (every : Bool) → f ≡ cond every 192 252 → f < 256
-table_small f true is = omega arith
-table_small f false is = omega arith
-
--- their numbers in the memo
-code_small : (op l : ℕ) (every : Bool) → l < 128 → op ≡ cond every (384 + l) (256 + l) → op < 512
-code_small op l true small is = omega arith
-code_small op l false small is = omega arith
-
+-- the operation of their number in the memo
 operation_quantify : (every : Bool) (l : ℕ) (x y z : Tree) → l < 128
     → operation (cond every (384 + l) (256 + l)) x y z ≡ quantify_tree 128 (chooser every) l x
 unfolding operation
@@ -107,150 +107,184 @@ module _ (every : Bool) (l i : ℕ) (x : Tree) (good : Good 128 x) (top : top_le
       quantify_split 128 (chooser every) l i (part false i x) (part true i x) before split_good
       ∙ ap (quantify_tree 128 (chooser every) l) (sym (node_parts i x top small))
 
-  down_ok : (v : Bool) → Ok (suc i) 128 (quantify_tree 128 (chooser every) l (part v i x))
+  down_ok : (v : Bool) → Shape.Ok (suc i) 128 (quantify_tree 128 (chooser every) l (part v i x))
   down_ok v = quantify_ok (suc i) 128 (chooser every) l (part v i x) (half v)
     where
-      half : (v : Bool) → Ok (suc i) 128 (part v i x)
+      half : (v : Bool) → Shape.Ok (suc i) 128 (part v i x)
       half true = split_good.high
       half false = split_good.low
 
 -- ---- on the way through the code
 
--- level l of number n is asked in a state with room; i is n's level
-pub record Looks (cells w : List ℕ) (b : Builder) (every : Bool) (l n i : ℕ) : Type 0 where
-  pub free : b.full ≡ false
-  pub ready : Ready cells w b
+-- level l of number n is asked in a ready state; i is n's level
+pub record Looks (cells : List ℕ) (s : Scratch) (b : Builder) (every : Bool) (l n i : ℕ) : Type 0 where
+  pub ready : Ready cells s b
   pub known : n < b.used + 2
   pub small : l < 128
   pub top : i ≡ top_of cells n
 
 -- by the contract and what `top` says
-pub looking : {cells w : List ℕ} {b : Builder} (every : Bool) {l n i : ℕ} → b.full ≡ false
-    → Alive cells w b × ((l < 128) × Known b n) → i ≡ top_of cells n → Looks cells w b every l n i
-looking every free pre top = record { free = free; ready = pre.0 free; known = pre.1.1 free; small = pre.1.0; top = top }
+pub looking : {cells : List ℕ} {s : Scratch} {b : Builder} (every : Bool) {l n i : ℕ} → Ready cells s b → l < 128 → Known b n
+    → i ≡ top_of cells n → Looks cells s b every l n i
+looking every ready small known top = record { ready = ready; known = known; small = small; top = top }
 
-module _ {cells w : List ℕ} {b : Builder} {every : Bool} {l n i : ℕ} (looks : Looks cells w b every l n i) where
+module _ {cells : List ℕ} {s : Scratch} {b : Builder} {every : Bool} {l n i : ℕ} (looks : Looks cells s b every l n i) where
   -- whatever diagram n stands for
-  looks_quantifies : {cells' w' : List ℕ} {b' : Builder} {r : ℕ}
-      → Gives cells w b (quantify_of cells every l n) cells' w' b' r → Quantifies cells w b every l n cells' w' b' r
-  looks_quantifies p x is = rw (tree_one looks.ready n x (is looks.free)) p
-
-  pub looks_code : {op : ℕ} → op ≡ cond every (384 + l) (256 + l) → op < 512
-  looks_code {op} is = code_small op l every looks.small is
+  looks_quantifies : (cells' : List ℕ) (s' : Scratch) (made : Result (Made ℕ) NoRoom)
+      → Works Means cells b (take (quantify_of cells every l n)) cells' s' made → Quantifies cells b every l n cells' s' made
+  unfolding quantify
+  looks_quantifies cells' s' made p x is = rw (tree_one looks.ready n x is) p
 
   -- n has no such level
-  pub above_quantifies : l < i → Quantifies cells w b every l n cells w b n
+  pub above_quantifies : l < i → Quantifies cells b every l n cells s (Ok (record { at = b; value = n }))
   above_quantifies before =
       let x = tree_of cells n in
       let good = tree_good looks.ready n looks.known in
       let ok = tree_ok looks.ready (suc l) n looks.known (omega (arith, looks.top)) in
       let same : quantify_tree 128 (chooser every) l x ≡ x =
       quantify_above 128 (chooser every) l x (chooser_same every) good ok in
-      let there : Gives cells w b x cells w b n =
-      gives_there looks.ready (tree_stands looks.ready n looks.known) in
-      looks_quantifies (rw same there)
+      let there : Enters cells b x cells s (record { at = b; value = n }) =
+      works_there looks.ready (tree_stands looks.ready n looks.known) in
+      looks_quantifies cells s (Ok (record { at = b; value = n })) (rw same there)
 
   -- remembered
-  pub recalled_quantifies : {op r : ℕ} → op ≡ cond every (384 + l) (256 + l)
-      → Recalled w b.covered b.memo op n 0 0 r → Quantifies cells w b every l n cells w b r
-  recalled_quantifies {op} {r} is said =
-      let found = recalled_stands looks.ready op n 0 0 looks.known (omega arith) (omega arith) said in
+  pub recalled_quantifies : {key : Key} (entries : ℕ) {op r : ℕ} → op ≡ cond every (384 + l) (256 + l)
+      → key ≡ key_of entries op n 0 0 → Recalled s.memo.now key r
+      → Quantifies cells b every l n cells s (Ok (record { at = b; value = r }))
+  recalled_quantifies entries {op} {r} is asked said =
+      let found = recalled_stands looks.ready op n 0 0 looks.known (omega arith) (omega arith) entries asked said in
       let same = operation_quantify every l (tree_of cells n) (tree_of cells 0) (tree_of cells 0) looks.small in
-      looks_quantifies (gives_there looks.ready (rw (is, same) at found))
+      looks_quantifies cells s (Ok (record { at = b; value = r })) (works_there looks.ready (rw (is, same) at found))
 
   -- once made it is remembered
-  pub noted_quantifies : {op r : ℕ} {cells' w' w'' : List ℕ} {b' : Builder} → op ≡ cond every (384 + l) (256 + l)
-      → Gives cells w b (quantify_of cells every l n) cells' w' b' r → w'' ≡ noted w' b' op n 0 0 r
-      → Quantifies cells w b every l n cells' w'' b' r
-  noted_quantifies {op} {r} {cells'} {w'} {w''} {b'} is does kept =
+  pub noted_quantifies : {key : Key} (entries : ℕ) {op : ℕ} {cells' : List ℕ} {s' : Scratch} (s'' : Scratch) {made : Made ℕ}
+      → op ≡ cond every (384 + l) (256 + l) → key ≡ key_of entries op n 0 0
+      → Enters cells b (quantify_of cells every l n) cells' s' made → s''.memo.now ≡ noted s'.memo.now key made.value
+      → (s''.heads.now ≡ s'.heads.now) × (s''.links.now ≡ s'.links.now)
+      → Quantifies cells b every l n cells' s'' (Ok made)
+  noted_quantifies entries {op} {cells'} {s'} s'' {made} is asked does memo index =
       let same = operation_quantify every l (tree_of cells n) (tree_of cells 0) (tree_of cells 0) looks.small in
-      let made : Gives cells w b (operation_of cells op n 0 0) cells' w' b' r = rw (is, same) does in
-      let noted = gives_noted looks.ready op n 0 0 looks.known (omega arith) (omega arith) made in
-      looks_quantifies (rw (← kept, is, same) at noted)
+      let whole : Enters cells b (operation_of cells op n 0 0) cells' s' made = rw (is, same) does in
+      let noted = enters_noted looks.ready op n 0 0 looks.known (omega arith) (omega arith) entries asked s'' whole memo index in
+      looks_quantifies cells' s'' (Ok made) (rw (is, same) at noted)
 
--- n is a node, with these parts
-pub record Halves (cells w : List ℕ) (b : Builder) (every : Bool) (l n i low high : ℕ) : Type 0 where
-  pub looks : Looks cells w b every l n i
+-- n is a node, with these halves
+pub record Halved (cells : List ℕ) (s : Scratch) (b : Builder) (every : Bool) (l n i : ℕ) (h : Halves) : Type 0 where
+  pub looks : Looks cells s b every l n i
   pub within : i ≤ l
-  pub low_is : low ≡ part_of cells false i n
-  pub high_is : high ≡ part_of cells true i n
+  pub halves : h ≡ halves_of cells i n
 
--- by what `low_part` and `high_part` say
-pub halving : {cells w : List ℕ} {b : Builder} {every : Bool} {l n i low high : ℕ} → Looks cells w b every l n i → i ≤ l
-    → low ≡ part_of cells false i n → high ≡ part_of cells true i n → Halves cells w b every l n i low high
-halving looks within low_is high_is = record { looks = looks; within = within; low_is = low_is; high_is = high_is }
+-- by what `split` says
+pub halving : {cells : List ℕ} {s : Scratch} {b : Builder} {every : Bool} {l n i : ℕ} {h : Halves}
+    → Looks cells s b every l n i → i ≤ l → h ≡ halves_of cells i n → Halved cells s b every l n i h
+halving looks within halves = record { looks = looks; within = within; halves = halves }
 
-module _ {cells w : List ℕ} {b : Builder} {every : Bool} {l n i low high : ℕ}
-    (halves : Halves cells w b every l n i low high) where
-  ready : Ready cells w b
-  ready = halves.looks.ready
+-- one half
+abbrev pub half : Bool → Halves → ℕ
+half v h = cond v h.high h.low
+
+module _ {cells : List ℕ} {s : Scratch} {b : Builder} {every : Bool} {l n i : ℕ} {h : Halves}
+    (halved : Halved cells s b every l n i h) where
+  ready : Ready cells s b
+  ready = halved.looks.ready
 
   known : n < b.used + 2
-  known = halves.looks.known
+  known = halved.looks.known
 
   pub half_level : i < 128
-  half_level = omega (arith, halves.within, halves.looks.small)
+  half_level = omega (arith, halved.within, halved.looks.small)
 
-  half_is : (v : Bool) → cond v high low ≡ part_of cells v i n
-  half_is true = halves.high_is
-  half_is false = halves.low_is
+  half_is : (v : Bool) → half v h ≡ part_of cells v i n
+  half_is true = rw halved.halves
+  half_is false = rw halved.halves
 
-  pub half_lower : (v : Bool) → cond v high low < n
-  half_lower v = rw (half_is v) (part_falls ready v i n known (sym halves.looks.top) half_level)
+  pub half_lower : (v : Bool) → half v h < n
+  half_lower v = rw (half_is v) (part_falls ready v i n known (sym halved.looks.top) half_level)
 
-  pub half_known : (v : Bool) → cond v high low < b.used + 2
+  pub half_known : (v : Bool) → half v h < b.used + 2
   half_known v = let lower = half_lower v in omega (arith, known)
 
-  half_tree : (v : Bool) → tree_of cells (cond v high low) ≡ part v i (tree_of cells n)
+  half_tree : (v : Bool) → tree_of cells (half v h) ≡ part v i (tree_of cells n)
   half_tree v = ap (tree_of cells) (half_is v) ∙ tree_part ready v i n known
 
   good : Good 128 (tree_of cells n)
   good = tree_good ready n known
 
   top : top_level 128 (tree_of cells n) ≡ i
-  top = sym (tree_top ready n known) ∙ sym halves.looks.top
-
-  pub half_table : {f : ℕ} → f ≡ cond every 192 252 → f < 256
-  half_table {f} is = table_small f every is
+  top = sym (tree_top ready n known) ∙ sym halved.looks.top
 
   -- the level itself
-  pub here_quantifies : {f r : ℕ} {cells' w' : List ℕ} {b' : Builder} → i ≡ l → f ≡ cond every 192 252
-      → Steps cells w b (record { f = f; a = low; b = high; c = 0 }) cells' w' b' r
-      → Quantifies cells w b every l n cells' w' b' r
-  here_quantifies {f} is table does =
-      let made = does (tree_of cells low) (tree_of cells high) (leaf false)
-      (λ free. tree_stands ready low (half_known false)) (λ free. tree_stands ready high (half_known true))
-      (λ free. record { is = refl; good = tt }) in
-      let both = step_tree 128 (table_of f) (tree_of cells low) (tree_of cells high) (leaf false) in
+  pub here_quantifies : {f : ℕ} (c₁ : List ℕ) (s₁ : Scratch) (made : Result (Made ℕ) NoRoom) → i ≡ l
+      → f ≡ cond every 192 252 → Steps cells b (record { f = f; a = h.low; b = h.high; c = 0 }) c₁ s₁ made
+      → Quantifies cells b every l n c₁ s₁ made
+  unfolding step
+  here_quantifies {f} c₁ s₁ made is table does =
+      let entered = does (tree_of cells h.low) (tree_of cells h.high) (leaf false)
+      (tree_stands ready h.low (half_known false)) (tree_stands ready h.high (half_known true))
+      (record { is = refl; good = tt }) in
+      let both = step_tree 128 (table_of f) (tree_of cells h.low) (tree_of cells h.high) (leaf false) in
       let tree : both ≡ quantify_of cells every l n =
       rw (table, half_tree false, half_tree true) (here_tree every l i (tree_of cells n) good top half_level is) in
-      looks_quantifies halves.looks (rw tree at made)
+      looks_quantifies halved.looks c₁ s₁ made (subst (λ t. Works Means cells b (take t) c₁ s₁ made) tree entered)
 
   -- a part's quantifier step, some steps later
-  part_gives : (v : Bool) {cells₁ w₁ cells₂ w₂ : List ℕ} {b₁ b₂ : Builder} {xs : List Tree} {r : ℕ}
-      → After cells w b xs cells₁ w₁ b₁ → Quantifies cells₁ w₁ b₁ every l (cond v high low) cells₂ w₂ b₂ r
-      → Gives cells₁ w₁ b₁ (part_tree cells every l n i v) cells₂ w₂ b₂ r
-  part_gives v after does =
+  part_works : (v : Bool) {c₁ : List ℕ} {s₁ : Scratch} {b₁ : Builder} {xs : List Tree} (c₂ : List ℕ) (s₂ : Scratch)
+      (made : Result (Made ℕ) NoRoom) → After cells b xs c₁ s₁ b₁ → Quantifies c₁ b₁ every l (half v h) c₂ s₂ made
+      → Works Means c₁ b₁ (take (part_tree cells every l n i v)) c₂ s₂ made
+  unfolding quantify
+  part_works v c₂ s₂ made after does =
       rw (half_tree v) at
-      (does (tree_of cells (cond v high low))
-      (after_means after (λ before. tree_stands ready (cond v high low) (half_known v))))
+      (does (tree_of cells (half v h)) (after_means after (tree_stands ready (half v h) (half_known v))))
 
-  pub low_gives : {cells₁ w₁ : List ℕ} {b₁ : Builder} {r : ℕ} → Quantifies cells w b every l low cells₁ w₁ b₁ r
-      → Gives cells w b (part_tree cells every l n i false) cells₁ w₁ b₁ r
-  low_gives = part_gives false (after_nothing cells w b (λ free. ready))
+  pub low_works : (c₁ : List ℕ) (s₁ : Scratch) (made : Result (Made ℕ) NoRoom)
+      → Quantifies cells b every l h.low c₁ s₁ made
+      → Works Means cells b (take (part_tree cells every l n i false)) c₁ s₁ made
+  low_works c₁ s₁ made = part_works false c₁ s₁ made (after_nothing ready)
 
-  pub high_gives : {cells₁ w₁ cells₂ w₂ : List ℕ} {b₁ b₂ : Builder} {y : Tree} {m r : ℕ}
-      → Gives cells w b y cells₁ w₁ b₁ m → Quantifies cells₁ w₁ b₁ every l high cells₂ w₂ b₂ r
-      → Gives cells₁ w₁ b₁ (part_tree cells every l n i true) cells₂ w₂ b₂ r
-  high_gives p = part_gives true p.after
+  -- a level before it
+  module _ (before : i < l) where
+    whole : mk i (part_tree cells every l n i false) (part_tree cells every l n i true) ≡ quantify_of cells every l n
+    whole = down_tree every l i (tree_of cells n) good top half_level before
 
-  -- a level before it: low part, high part, then the node
-  pub quantify_gives : {cells₁ w₁ cells₂ w₂ cells₃ w₃ : List ℕ} {b₁ b₂ b₃ : Builder} {p q r : ℕ} → i < l
-      → Gives cells w b (part_tree cells every l n i false) cells₁ w₁ b₁ p
-      → Gives cells₁ w₁ b₁ (part_tree cells every l n i true) cells₂ w₂ b₂ q
-      → Joins cells₂ w₂ b₂ i p q cells₃ w₃ b₃ r
-      → Gives cells w b (quantify_of cells every l n) cells₃ w₃ b₃ r
-  quantify_gives before first second join =
-      let ok = down_ok every l i (tree_of cells n) good top half_level in
-      rw (down_tree every l i (tree_of cells n) good top half_level before) at
-      (gives_mk (λ free. ready) (ok false) (ok true) first second join)
+    -- no room for the low part
+    pub low_fails : (c₁ : List ℕ) (s₁ : Scratch) (e : NoRoom) → Quantifies cells b every l h.low c₁ s₁ (Err e)
+        → Quantifies cells b every l n c₁ s₁ (Err e)
+    low_fails c₁ s₁ e low =
+        looks_quantifies halved.looks c₁ s₁ (Err e)
+        (rw whole at (low_lacks ready i (part_tree cells every l n i false) (part_tree cells every l n i true)
+        (low_works c₁ s₁ (Err e) low)))
+
+  module _ {c₁ : List ℕ} {s₁ : Scratch} {first : Made ℕ}
+      (low : Enters cells b (part_tree cells every l n i false) c₁ s₁ first) where
+    pub high_works : (c₂ : List ℕ) (s₂ : Scratch) (made : Result (Made ℕ) NoRoom)
+        → Quantifies c₁ first.at every l h.high c₂ s₂ made
+        → Works Means c₁ first.at (take (part_tree cells every l n i true)) c₂ s₂ made
+    high_works c₂ s₂ made = part_works true c₂ s₂ made low.after
+
+    module _ (before : i < l) where
+      -- no room for the high part
+      pub high_fails : (c₂ : List ℕ) (s₂ : Scratch) (e : NoRoom) → Quantifies c₁ first.at every l h.high c₂ s₂ (Err e)
+          → Quantifies cells b every l n c₂ s₂ (Err e)
+      high_fails c₂ s₂ e high =
+          looks_quantifies halved.looks c₂ s₂ (Err e)
+          (rw (whole before) at (high_lacks ready i (part_tree cells every l n i false) (part_tree cells every l n i true) low
+          (high_works c₂ s₂ (Err e) high)))
+
+      -- low part, high part, then the node
+      pub quantify_works : {c₂ : List ℕ} {s₂ : Scratch} {second : Made ℕ} (c₃ : List ℕ) (s₃ : Scratch)
+          (made : Result (Made ℕ) NoRoom) → Enters c₁ first.at (part_tree cells every l n i true) c₂ s₂ second
+          → Joins c₂ second.at (record { level = i; low = first.value; high = second.value }) c₃ s₃ made
+          → Works Means cells b (take (quantify_of cells every l n)) c₃ s₃ made
+      quantify_works c₃ s₃ made high join =
+          let ok = down_ok every l i (tree_of cells n) good top half_level in
+          rw (whole before) at
+          (works_mk ready i (part_tree cells every l n i false) (part_tree cells every l n i true) c₃ s₃ made
+          (ok false) (ok true) low high join)
+
+      -- no room for the node
+      pub node_fails : {c₂ : List ℕ} {s₂ : Scratch} {second : Made ℕ} (c₃ : List ℕ) (s₃ : Scratch) (e : NoRoom)
+          → Enters c₁ first.at (part_tree cells every l n i true) c₂ s₂ second
+          → Joins c₂ second.at (record { level = i; low = first.value; high = second.value }) c₃ s₃ (Err e)
+          → Quantifies cells b every l n c₃ s₃ (Err e)
+      node_fails c₃ s₃ e high join =
+          looks_quantifies halved.looks c₃ s₃ (Err e) (quantify_works c₃ s₃ (Err e) high join)

@@ -6,58 +6,64 @@ use mathlib.Core.Logic.{◌⊎◌, inl, inr}
 use mathlib.Core.Bool.{Bool, true, false, cond}
 use mathlib.Core.List.{List}
 use borrow.Author.Tests.{lt-ltb}
+use Rattle.std.specs.Prelude.{Result, Ok, Err}
 use Rattle.meaning.specs.Diagram.{Tree, Assignment, holds, mk}
-use Rattle.meaning.specs.Step.{step_tree}
+use Rattle.meaning.specs.Step.{step, step_tree, take}
 use Rattle.meaning.specs.Witness.{part}
 use Rattle.meaning.specs.Lent.{tree_of}
-use Rattle.meaning.proofs.Laws.Shape.{Ok, Good}
+use Rattle.meaning.proofs.Laws.Shape as Shape
+use Rattle.meaning.proofs.Laws.Shape.{Good}
 use Rattle.meaning.proofs.Laws.Diagram.{part_ok, step_good, step_holds}
 use Rattle.meaning.proofs.Laws.Apply.{step_is, step_ok, step_split}
-use Rattle.diagram.specs.Function.{table_of, evaluate, Terminal, Shorter, Answers}
-use Rattle.diagram.specs.Scratch.{operation, Recalled}
-use Rattle.diagram.specs.State.{Alive, Ready, Known, Means, Stands, After, Gives, Joins, nodes, part_of, parts_of, noted}
+use Rattle.diagram.specs.Function.{table_of, evaluate, Terminal, Shorter, AnsweredBy}
+use Rattle.diagram.specs.Scratch.{operation, Recalled, key_of, noted}
+use Rattle.diagram.specs.State.{Ready, Known, Means, Stands, After, Works, Joins, nodes}
+use Rattle.diagram.specs.Table.{part_of, parts_of}
 use Rattle.diagram.specs.declared.builder.Builder.{Builder}
-use Rattle.diagram.specs.declared.function.Asked.{Asked}
-use Rattle.diagram.specs.declared.function.Quick.{Quick}
+use Rattle.diagram.specs.declared.builder.Made.{Made}
+use Rattle.diagram.specs.declared.builder.NoRoom.{NoRoom}
+use Rattle.diagram.specs.declared.function.Question.{Question}
+use Rattle.diagram.specs.declared.scratch.Scratch.{Scratch}
+use Rattle.diagram.specs.declared.scratch.Key.{Key}
 use Rattle.diagram.specs.declared.table.Parts.{Parts}
-use Rattle.diagram.proofs.Laws.After.{after_nothing, after_means, after_known, gives_there}
+use Rattle.diagram.proofs.Laws.After.{after_nothing, after_means, after_known, works_there}
 use Rattle.diagram.proofs.Laws.Parts.{tree_stands, tree_one, tree_good, tree_ok, tree_part}
 use Rattle.diagram.proofs.Laws.Parts.{part_le, parts_fall, level_small}
-use Rattle.diagram.proofs.Laws.Gives.{gives_mk, gives_noted, recalled_stands}
+use Rattle.diagram.proofs.Laws.Enters.{Enters, low_lacks, high_lacks, works_mk, enters_noted, recalled_stands}
 
 -- what a step does
-abbrev pub Steps : List ℕ → List ℕ → Builder → Asked → List ℕ → List ℕ → Builder → ℕ → Type 0
-Steps cells w b q cells' w' b' r =
+abbrev pub Steps : List ℕ → Builder → Question → List ℕ → Scratch → Result (Made ℕ) NoRoom → Type 0
+Steps cells b q cells' s' r =
     (x y z : Tree) → Means cells b q.a x → Means cells b q.b y → Means cells b q.c z →
-    Gives cells w b (step_tree 128 (table_of q.f) x y z) cells' w' b' r
+    Works Means cells b (step 128 (table_of q.f) x y z) cells' s' r
 
 -- its diagram
-abbrev pub step_of : List ℕ → Asked → Tree
+abbrev pub step_of : List ℕ → Question → Tree
 step_of cells q = step_tree 128 (table_of q.f) (tree_of cells q.a) (tree_of cells q.b) (tree_of cells q.c)
 
 -- its operands are numbers of the table
-pub record Knows (b : Builder) (q : Asked) : Type 0 where
+pub record Knows (b : Builder) (q : Question) : Type 0 where
   pub known_a : q.a < b.used + 2
   pub known_b : q.b < b.used + 2
   pub known_c : q.c < b.used + 2
 
-abbrev pub size : Asked → ℕ
+abbrev pub size : Question → ℕ
 size q = q.a + q.b + q.c
 
 -- the lowest level of its operands, and the step of their parts there
-abbrev level_at : List ℕ → Asked → ℕ
+abbrev level_at : List ℕ → Question → ℕ
 level_at cells q = (parts_of cells q.a q.b q.c).level
 
-abbrev half : List ℕ → Bool → Asked → Asked
+abbrev half : List ℕ → Bool → Question → Question
 half cells v q =
     let l = level_at cells q in
     record { f = q.f; a = part_of cells v l q.a; b = part_of cells v l q.b; c = part_of cells v l q.c }
 
 -- the same by the code's record of parts
-abbrev pub side : Bool → ℕ → Parts → Asked
-side v f p = record { f = f; a = cond v p.a1 p.a0; b = cond v p.b1 p.b0; c = cond v p.c1 p.c0 }
+abbrev pub side : Bool → ℕ → Parts → Question
+side v f p = record { f = f; a = cond v p.a.high p.a.low; b = cond v p.b.high p.b.low; c = cond v p.c.high p.c.low }
 
-side_half : (cells : List ℕ) (v : Bool) (q : Asked) (p : Parts) → p ≡ parts_of cells q.a q.b q.c
+side_half : (cells : List ℕ) (v : Bool) (q : Question) (p : Parts) → p ≡ parts_of cells q.a q.b q.c
     → side v q.f p ≡ half cells v q
 side_half cells true q p is = rw is
 side_half cells false q p is = rw is
@@ -74,7 +80,7 @@ truths_terminal : (cells : List ℕ) (ρ : Assignment) → Terminal (truths cell
 unfolding tree_of
 truths_terminal cells ρ = record { falsehood = refl; truth = refl }
 
-knows_shorter : {b : Builder} {q r : Asked} → Shorter q r → Knows b q → Knows b r
+knows_shorter : {b : Builder} {q r : Question} → Shorter q r → Knows b q → Knows b r
 knows_shorter {b} {q} {r} short knows =
     record {
       known_a = go short.a_from knows.known_a;
@@ -86,7 +92,7 @@ knows_shorter {b} {q} {r} short knows =
     go (inl is) inside = omega arith
     go (inr is) inside = omega arith
 
-shorter_size : (q r : Asked) → Shorter q r → size r ≤ size q
+shorter_size : (q r : Question) → Shorter q r → size r ≤ size q
 shorter_size q r short = omega (arith, go short.a_from, go short.b_from, go short.c_from)
   where
     go : {m n : ℕ} → (m ≡ n) ⊎ (m ≡ 0) → m ≤ n
@@ -94,16 +100,14 @@ shorter_size q r short = omega (arith, go short.a_from, go short.b_from, go shor
     go (inr is) = omega arith
 
 -- some steps later they still are
-pub knows_later : {cells w cells' w' : List ℕ} {b b' : Builder} {xs : List Tree} (q : Asked)
-    → After cells w b xs cells' w' b' → Knows b q → Known b' q.a × (Known b' q.b × Known b' q.c)
-knows_later q after knows = (
-  after_known after (λ free. knows.known_a),
-  (after_known after (λ free. knows.known_b), after_known after (λ free. knows.known_c)),
-)
+pub knows_later : {cells cells' : List ℕ} {s' : Scratch} {b b' : Builder} {xs : List Tree} (q : Question)
+    → After cells b xs cells' s' b' → Knows b q → Known b' q.a × (Known b' q.b × Known b' q.c)
+knows_later q after knows =
+    (after_known after knows.known_a, (after_known after knows.known_b, after_known after knows.known_c))
 
-module _ {cells w : List ℕ} {b : Builder} (ready : Ready cells w b) where
+module _ {cells : List ℕ} {s : Scratch} {b : Builder} (ready : Ready cells s b) where
   -- the step's diagram is any well formed one that holds where the function does
-  known_is : (q : Asked) (t : Tree) → Knows b q → Good 128 t
+  known_is : (q : Question) (t : Tree) → Knows b q → Good 128 t
       → ((ρ : Assignment) → evaluate q (truths cells ρ) ≡ holds t ρ) → step_of cells q ≡ t
   unfolding evaluate
   known_is q t knows good h =
@@ -111,7 +115,7 @@ module _ {cells w : List ℕ} {b : Builder} (ready : Ready cells w b) where
       (tree_good ready q.a knows.known_a) (tree_good ready q.b knows.known_b)
       (tree_good ready q.c knows.known_c) good h
 
-  known_holds : (q : Asked) → Knows b q → (ρ : Assignment) → holds (step_of cells q) ρ ≡ evaluate q (truths cells ρ)
+  known_holds : (q : Question) → Knows b q → (ρ : Assignment) → holds (step_of cells q) ρ ≡ evaluate q (truths cells ρ)
   unfolding evaluate
   known_holds q knows ρ =
       step_holds 128 (table_of q.f) (tree_of cells q.a) (tree_of cells q.b) (tree_of cells q.c)
@@ -119,34 +123,33 @@ module _ {cells w : List ℕ} {b : Builder} (ready : Ready cells w b) where
       (tree_good ready q.c knows.known_c) ρ
 
   -- the same of fewer operands
-  shorter_same : (q r : Asked) → Knows b q → Shorter q r → step_of cells r ≡ step_of cells q
+  shorter_same : (q r : Question) → Knows b q → Shorter q r → step_of cells r ≡ step_of cells q
   shorter_same q r knows short =
       known_is r (step_of cells q) (knows_shorter short knows)
       (step_good 128 (table_of q.f) (tree_of cells q.a) (tree_of cells q.b) (tree_of cells q.c))
       (λ ρ. short.same (truths cells ρ) (truths_terminal cells ρ) ∙ sym (known_holds q knows ρ))
 
-  module _ (q : Asked) (knows : Knows b q) where
+  module _ (q : Question) (knows : Knows b q) where
     -- an answer that needs no node
-    quick_stands : (k : Quick) → k.done ≡ true → Answers q k → Stands (nodes cells b) k.number (step_of cells q)
-    quick_stands k done answers =
-        let stands = tree_stands ready k.number (inside (answers.from done)) in
-        rw (known_is q (tree_of cells k.number) knows stands.good
-        (λ ρ. answers.same done (truths cells ρ) (truths_terminal cells ρ)))
+    quick_stands : (n : ℕ) → AnsweredBy q n → Stands (nodes cells b) n (step_of cells q)
+    quick_stands n answer =
+        let stands = tree_stands ready n (inside answer.from) in
+        rw (known_is q (tree_of cells n) knows stands.good
+        (λ ρ. answer.same (truths cells ρ) (truths_terminal cells ρ)))
         stands
       where
-        inside : (k.number < 2) ⊎ ((k.number ≡ q.a) ⊎ ((k.number ≡ q.b) ⊎ (k.number ≡ q.c)))
-            → k.number < b.used + 2
+        inside : (n < 2) ⊎ ((n ≡ q.a) ⊎ ((n ≡ q.b) ⊎ (n ≡ q.c))) → n < b.used + 2
         inside (inl small) = omega arith
         inside (inr (inl is)) = omega (arith, knows.known_a)
         inside (inr (inr (inl is))) = omega (arith, knows.known_b)
         inside (inr (inr (inr is))) = omega (arith, knows.known_c)
 
     -- a remembered answer
-    recalled_step : {r : ℕ} → q.f < 256 → Recalled w b.covered b.memo q.f q.a q.b q.c r
-        → Stands (nodes cells b) r (step_of cells q)
-    recalled_step small said =
+    recalled_step : {key : Key} (entries : ℕ) {r : ℕ} → q.f < 256 → key ≡ key_of entries q.f q.a q.b q.c
+        → Recalled s.memo.now key r → Stands (nodes cells b) r (step_of cells q)
+    recalled_step entries small asked said =
         rw (operation_step q.f (tree_of cells q.a) (tree_of cells q.b) (tree_of cells q.c) small) at
-        (recalled_stands ready q.f q.a q.b q.c knows.known_a knows.known_b knows.known_c said)
+        (recalled_stands ready q.f q.a q.b q.c knows.known_a knows.known_b knows.known_c entries asked said)
 
     -- ---- parts
 
@@ -158,13 +161,13 @@ module _ {cells w : List ℕ} {b : Builder} (ready : Ready cells w b) where
           known_c = omega (arith, part_le ready v (level_at cells q) q.c knows.known_c, knows.known_c);
         }
 
-    ok_a : Ok (level_at cells q) 128 (tree_of cells q.a)
+    ok_a : Shape.Ok (level_at cells q) 128 (tree_of cells q.a)
     ok_a = tree_ok ready (level_at cells q) q.a knows.known_a (omega arith)
 
-    ok_b : Ok (level_at cells q) 128 (tree_of cells q.b)
+    ok_b : Shape.Ok (level_at cells q) 128 (tree_of cells q.b)
     ok_b = tree_ok ready (level_at cells q) q.b knows.known_b (omega arith)
 
-    ok_c : Ok (level_at cells q) 128 (tree_of cells q.c)
+    ok_c : Shape.Ok (level_at cells q) 128 (tree_of cells q.c)
     ok_c = tree_ok ready (level_at cells q) q.c knows.known_c (omega arith)
 
     half_tree : (v : Bool)
@@ -177,7 +180,7 @@ module _ {cells w : List ℕ} {b : Builder} (ready : Ready cells w b) where
           tree_part ready v (level_at cells q) q.c knows.known_c,
         )
 
-    half_ok : (v : Bool) → Ok (suc (level_at cells q)) 128 (step_of cells (half cells v q))
+    half_ok : (v : Bool) → Shape.Ok (suc (level_at cells q)) 128 (step_of cells (half cells v q))
     half_ok v =
         let l = level_at cells q in
         let x = tree_of cells q.a in
@@ -196,64 +199,63 @@ module _ {cells w : List ℕ} {b : Builder} (ready : Ready cells w b) where
 
 -- ---- on the way through the code
 
--- q is asked in a state with room; r asks the same of fewer operands
-pub record Asks (cells w : List ℕ) (b : Builder) (q r : Asked) : Type 0 where
-  pub free : b.full ≡ false
-  pub ready : Ready cells w b
+-- q is asked in a ready state; r asks the same of fewer operands
+pub record Asks (cells : List ℕ) (s : Scratch) (b : Builder) (q r : Question) : Type 0 where
+  pub ready : Ready cells s b
   pub known : Knows b q
   pub short : Shorter q r
 
--- what the call asks, by its contract and what `shorten` says
-pub asking : {cells w : List ℕ} {b : Builder} (q : Asked) {r : Asked} → b.full ≡ false
-    → Alive cells w b × ((q.f < 256) × (Known b q.a × (Known b q.b × Known b q.c))) → Shorter q r → Asks cells w b q r
-asking q free pre short =
-    let known = pre.1.1 in
+-- what the call asks, by what `shorten` says and its contract
+pub asking : {cells : List ℕ} {s : Scratch} {b : Builder} {q r : Question} → Shorter q r → Ready cells s b
+    → Known b q.a × (Known b q.b × Known b q.c) → Asks cells s b q r
+asking short ready known =
     record {
-      free = free;
-      ready = pre.0 free;
-      known = record { known_a = known.0 free; known_b = known.1.0 free; known_c = known.1.1 free };
+      ready = ready;
+      known = record { known_a = known.0; known_b = known.1.0; known_c = known.1.1 };
       short = short;
     }
 
-module _ {cells w : List ℕ} {b : Builder} {q r : Asked} (asks : Asks cells w b q r) where
+module _ {cells : List ℕ} {s : Scratch} {b : Builder} {q r : Question} (asks : Asks cells s b q r) where
   pub asks_knows : Knows b r
   asks_knows = knows_shorter asks.short asks.known
 
   -- whatever diagrams the operands stand for
-  asks_steps : {cells' w' : List ℕ} {b' : Builder} {n : ℕ} → Gives cells w b (step_of cells r) cells' w' b' n
-      → Steps cells w b q cells' w' b' n
-  asks_steps p x y z is_x is_y is_z =
-      let one : (n : ℕ) (x : Tree) → Means cells b n x → x ≡ tree_of cells n =
-      λ n x means. tree_one asks.ready n x (means asks.free) in
+  asks_steps : (cells' : List ℕ) (s' : Scratch) (made : Result (Made ℕ) NoRoom)
+      → Works Means cells b (take (step_of cells r)) cells' s' made → Steps cells b q cells' s' made
+  unfolding step
+  asks_steps cells' s' made p x y z is_x is_y is_z =
+      let one : (n : ℕ) (x : Tree) → Means cells b n x → x ≡ tree_of cells n = λ n x means. tree_one asks.ready n x means in
       rw (one q.a x is_x, one q.b y is_y, one q.c z is_z)
       (rw (shorter_same asks.ready q r asks.known asks.short) at p)
 
-  pub quick_steps : {k : Quick} → Answers r k → k.done ≡ true → Steps cells w b q cells w b k.number
-  quick_steps {k} answers done =
-      asks_steps (gives_there asks.ready (quick_stands asks.ready r asks_knows k done answers))
+  pub quick_steps : {n : ℕ} → AnsweredBy r n → Steps cells b q cells s (Ok (record { at = b; value = n }))
+  quick_steps {n} answer =
+      asks_steps cells s (Ok (record { at = b; value = n }))
+      (works_there asks.ready (quick_stands asks.ready r asks_knows n answer))
 
-  pub recalled_steps : {n : ℕ} → Recalled w b.covered b.memo r.f r.a r.b r.c n
-      → Steps cells w b q cells w b n
-  recalled_steps said =
-      asks_steps (gives_there asks.ready (recalled_step asks.ready r asks_knows asks.short.small said))
+  pub recalled_steps : {key : Key} (entries : ℕ) {n : ℕ} → key ≡ key_of entries r.f r.a r.b r.c → Recalled s.memo.now key n
+      → Steps cells b q cells s (Ok (record { at = b; value = n }))
+  recalled_steps entries {n} asked said =
+      asks_steps cells s (Ok (record { at = b; value = n }))
+      (works_there asks.ready (recalled_step asks.ready r asks_knows entries asks.short.small asked said))
 
 -- r is split at its lowest level
-pub record Splits (cells w : List ℕ) (b : Builder) (q r : Asked) (p : Parts) : Type 0 where
-  pub asks : Asks cells w b q r
+pub record Splits (cells : List ℕ) (s : Scratch) (b : Builder) (q r : Question) (p : Parts) : Type 0 where
+  pub asks : Asks cells s b q r
   pub parts : p ≡ parts_of cells r.a r.b r.c
   pub some : (2 ≤ r.a) ⊎ ((2 ≤ r.b) ⊎ (2 ≤ r.c))
 
 -- by what `shortcut` and `parted` say
-pub splitting : {cells w : List ℕ} {b : Builder} {q r : Asked} {k : Quick} {p : Parts} → Asks cells w b q r → Answers r k
-    → k.done ≡ false → p ≡ parts_of cells r.a r.b r.c → Splits cells w b q r p
-splitting asks answers none parts = record { asks = asks; parts = parts; some = answers.left none }
+pub splitting : {cells : List ℕ} {s : Scratch} {b : Builder} {q r : Question} {p : Parts} → Asks cells s b q r
+    → (2 ≤ r.a) ⊎ ((2 ≤ r.b) ⊎ (2 ≤ r.c)) → p ≡ parts_of cells r.a r.b r.c → Splits cells s b q r p
+splitting asks some parts = record { asks = asks; parts = parts; some = some }
 
 -- the diagram of one part
-abbrev pub part_tree : List ℕ → Bool → Asked → Tree
+abbrev pub part_tree : List ℕ → Bool → Question → Tree
 part_tree cells v r = step_of cells (half cells v r)
 
-module _ {cells w : List ℕ} {b : Builder} {q r : Asked} {p : Parts} (splits : Splits cells w b q r p) where
-  ready : Ready cells w b
+module _ {cells : List ℕ} {s : Scratch} {b : Builder} {q r : Question} {p : Parts} (splits : Splits cells s b q r p) where
+  ready : Ready cells s b
   ready = splits.asks.ready
 
   knows : Knows b r
@@ -268,52 +270,81 @@ module _ {cells w : List ℕ} {b : Builder} {q r : Asked} {p : Parts} (splits : 
       let falls : size (half cells v r) < size r =
       parts_fall ready r.a r.b r.c knows.known_a knows.known_b knows.known_c splits.some v in
       let less = shorter_size q r splits.asks.short in
-      subst (λ (h : Asked). size h < size q) (sym (side_half cells v r p splits.parts)) (omega arith)
+      subst (λ (h : Question). size h < size q) (sym (side_half cells v r p splits.parts)) (omega arith)
 
   pub level_below : p.level < 128
   level_below =
       rw splits.parts
       (level_small ready r.a r.b r.c knows.known_a knows.known_b knows.known_c splits.some)
 
+  whole : mk (level_at cells r) (part_tree cells false r) (part_tree cells true r) ≡ step_of cells r
+  whole = halves_mk ready r knows (rw splits.parts at level_below)
+
   -- a part's step, some steps later
-  part_gives : (v : Bool) {cells₁ w₁ cells₂ w₂ : List ℕ} {b₁ b₂ : Builder} {xs : List Tree} {n : ℕ}
-      → After cells w b xs cells₁ w₁ b₁ → Steps cells₁ w₁ b₁ (side v r.f p) cells₂ w₂ b₂ n
-      → Gives cells₁ w₁ b₁ (part_tree cells v r) cells₂ w₂ b₂ n
-  part_gives v {cells₁} {w₁} {cells₂} {w₂} {b₁} {b₂} {xs} {n} after does =
+  part_works : (v : Bool) {c₁ : List ℕ} {s₁ : Scratch} {b₁ : Builder} {xs : List Tree} (c₂ : List ℕ) (s₂ : Scratch)
+      (made : Result (Made ℕ) NoRoom) → After cells b xs c₁ s₁ b₁ → Steps c₁ b₁ (side v r.f p) c₂ s₂ made
+      → Works Means c₁ b₁ (take (part_tree cells v r)) c₂ s₂ made
+  unfolding step
+  part_works v {c₁} {s₁} {b₁} {xs} c₂ s₂ made after does =
       let h = half cells v r in
       let known = knows_half ready r knows v in
-      subst (λ (h : Asked). Steps cells₁ w₁ b₁ h cells₂ w₂ b₂ n) (side_half cells v r p splits.parts) does
+      subst (λ (h : Question). Steps c₁ b₁ h c₂ s₂ made) (side_half cells v r p splits.parts) does
       (tree_of cells h.a) (tree_of cells h.b) (tree_of cells h.c)
-      (after_means after (λ before. tree_stands ready h.a known.known_a))
-      (after_means after (λ before. tree_stands ready h.b known.known_b))
-      (after_means after (λ before. tree_stands ready h.c known.known_c))
+      (after_means after (tree_stands ready h.a known.known_a))
+      (after_means after (tree_stands ready h.b known.known_b))
+      (after_means after (tree_stands ready h.c known.known_c))
 
-  pub low_gives : {cells₁ w₁ : List ℕ} {b₁ : Builder} {n : ℕ} → Steps cells w b (side false r.f p) cells₁ w₁ b₁ n
-      → Gives cells w b (part_tree cells false r) cells₁ w₁ b₁ n
-  low_gives = part_gives false (after_nothing cells w b (λ free. ready))
+  pub low_works : (c₁ : List ℕ) (s₁ : Scratch) (made : Result (Made ℕ) NoRoom) → Steps cells b (side false r.f p) c₁ s₁ made
+      → Works Means cells b (take (part_tree cells false r)) c₁ s₁ made
+  low_works c₁ s₁ made = part_works false c₁ s₁ made (after_nothing ready)
 
-  pub high_gives : {cells₁ w₁ cells₂ w₂ : List ℕ} {b₁ b₂ : Builder} {x : Tree} {m n : ℕ}
-      → Gives cells w b x cells₁ w₁ b₁ m → Steps cells₁ w₁ b₁ (side true r.f p) cells₂ w₂ b₂ n
-      → Gives cells₁ w₁ b₁ (part_tree cells true r) cells₂ w₂ b₂ n
-  high_gives low = part_gives true low.after
+  -- no room for the low part
+  pub low_fails : (c₁ : List ℕ) (s₁ : Scratch) (e : NoRoom) → Steps cells b (side false r.f p) c₁ s₁ (Err e)
+      → Steps cells b q c₁ s₁ (Err e)
+  low_fails c₁ s₁ e low =
+      asks_steps splits.asks c₁ s₁ (Err e)
+      (rw whole at (low_lacks ready (level_at cells r) (part_tree cells false r) (part_tree cells true r)
+      (low_works c₁ s₁ (Err e) low)))
 
-  -- low part, high part, then the node
-  pub step_gives : {cells₁ w₁ cells₂ w₂ cells₃ w₃ : List ℕ} {b₁ b₂ b₃ : Builder} {m n k : ℕ}
-      → Gives cells w b (part_tree cells false r) cells₁ w₁ b₁ m
-      → Gives cells₁ w₁ b₁ (part_tree cells true r) cells₂ w₂ b₂ n
-      → Joins cells₂ w₂ b₂ p.level m n cells₃ w₃ b₃ k
-      → Gives cells w b (step_of cells r) cells₃ w₃ b₃ k
-  step_gives low high join =
-      rw (halves_mk ready r knows (rw splits.parts at level_below)) at
-      (gives_mk {l = level_at cells r} (λ free. ready) (half_ok ready r knows false) (half_ok ready r knows true)
-      low high (rw splits.parts at join))
+  module _ {c₁ : List ℕ} {s₁ : Scratch} {first : Made ℕ} (low : Enters cells b (part_tree cells false r) c₁ s₁ first) where
+    pub high_works : (c₂ : List ℕ) (s₂ : Scratch) (made : Result (Made ℕ) NoRoom)
+        → Steps c₁ first.at (side true r.f p) c₂ s₂ made
+        → Works Means c₁ first.at (take (part_tree cells true r)) c₂ s₂ made
+    high_works c₂ s₂ made = part_works true c₂ s₂ made low.after
+
+    -- no room for the high part
+    pub high_fails : (c₂ : List ℕ) (s₂ : Scratch) (e : NoRoom) → Steps c₁ first.at (side true r.f p) c₂ s₂ (Err e)
+        → Steps cells b q c₂ s₂ (Err e)
+    high_fails c₂ s₂ e high =
+        asks_steps splits.asks c₂ s₂ (Err e)
+        (rw whole at (high_lacks ready (level_at cells r) (part_tree cells false r) (part_tree cells true r) low
+        (high_works c₂ s₂ (Err e) high)))
+
+    -- low part, high part, then the node
+    pub step_works : {c₂ : List ℕ} {s₂ : Scratch} {second : Made ℕ} (c₃ : List ℕ) (s₃ : Scratch)
+        (made : Result (Made ℕ) NoRoom) → Enters c₁ first.at (part_tree cells true r) c₂ s₂ second
+        → Joins c₂ second.at (record { level = p.level; low = first.value; high = second.value }) c₃ s₃ made
+        → Works Means cells b (take (step_of cells r)) c₃ s₃ made
+    step_works c₃ s₃ made high join =
+        rw whole at
+        (works_mk ready (level_at cells r) (part_tree cells false r) (part_tree cells true r) c₃ s₃ made
+        (half_ok ready r knows false) (half_ok ready r knows true) low high (rw splits.parts at join))
+
+    -- no room for the node
+    pub node_fails : {c₂ : List ℕ} {s₂ : Scratch} {second : Made ℕ} (c₃ : List ℕ) (s₃ : Scratch) (e : NoRoom)
+        → Enters c₁ first.at (part_tree cells true r) c₂ s₂ second
+        → Joins c₂ second.at (record { level = p.level; low = first.value; high = second.value }) c₃ s₃ (Err e)
+        → Steps cells b q c₃ s₃ (Err e)
+    node_fails c₃ s₃ e high join = asks_steps splits.asks c₃ s₃ (Err e) (step_works c₃ s₃ (Err e) high join)
 
   -- which is then remembered
-  pub noted_steps : {cells' w' w'' : List ℕ} {b' : Builder} {n : ℕ} → Gives cells w b (step_of cells r) cells' w' b' n
-      → w'' ≡ noted w' b' r.f r.a r.b r.c n → Steps cells w b q cells' w'' b' n
-  noted_steps does is =
+  pub noted_steps : {key : Key} (entries : ℕ) {cells' : List ℕ} {s' : Scratch} (s'' : Scratch) {made : Made ℕ}
+      → key ≡ key_of entries r.f r.a r.b r.c → Enters cells b (step_of cells r) cells' s' made
+      → s''.memo.now ≡ noted s'.memo.now key made.value
+      → (s''.heads.now ≡ s'.heads.now) × (s''.links.now ≡ s'.links.now) → Steps cells b q cells' s'' (Ok made)
+  noted_steps entries {cells'} {s'} s'' {made} asked does memo index =
       let same = operation_step r.f (tree_of cells r.a) (tree_of cells r.b) (tree_of cells r.c)
       splits.asks.short.small in
-      let noted = gives_noted ready r.f r.a r.b r.c knows.known_a knows.known_b knows.known_c
-      (rw (← same) at does) in
-      asks_steps splits.asks (rw (same, ← is) at noted)
+      let noted = enters_noted ready r.f r.a r.b r.c knows.known_a knows.known_b knows.known_c entries asked s''
+      (rw (← same) at does) memo index in
+      asks_steps splits.asks cells' s'' (Ok made) (rw same at noted)

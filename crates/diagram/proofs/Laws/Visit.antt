@@ -1,20 +1,20 @@
--- A visit counts a number's diagram: a law a return of the code, what a visit needs, and what a caller that counts some
--- diagrams learns (count_next).
+-- A visit counts a number's diagram: a law a return of the code, and what a visit needs.
 use Prim.Native.Nat.{ℕ, ◌+◌, ◌-◌, ◌*◌, ◌≤◌, ◌<◌}
 use native.Mathlib.Omega.{arith}
 use mathlib.Core.Path.{◌≡◌, refl, sym, ap, subst, ◌∙◌}
 use mathlib.Core.Bool.{Bool, true, false}
-use mathlib.Core.List.{List, [], ◌∷◌, ◌++◌}
+use mathlib.Core.List.{List}
 use lib.Dec.{ltb}
 use lib.ListN.{length}
-use borrow.Author.Tests.{lt-ltb, le-ltb, ltb-true, ltb-false}
+use borrow.Author.Tests.{ltb-true, ltb-false}
 use Rattle.meaning.specs.Diagram.{Tree, leaf, node}
-use Rattle.meaning.specs.Table.{Table, slot, enter, enter_all, count}
+use Rattle.meaning.specs.Table.{Table, slot, enter}
 use Rattle.meaning.specs.Lent.{node_at, low_of, high_of}
 use Rattle.meaning.proofs.Laws.Table.{slot_at, Is, Single, insert_ext, ext_length, is_one}
-use Rattle.meaning.proofs.Laws.Table.{enter_again, enter_grows, enter_all_append}
-use Rattle.diagram.specs.State.{Inside, nodes_of}
+use Rattle.meaning.proofs.Laws.Table.{enter_again, enter_grows}
+use Rattle.diagram.specs.Table.{Inside, nodes_of, node_of}
 use Rattle.diagram.specs.Count.{marked_at, marking, Counted, Tallied, Visitable, Visited}
+use Rattle.diagram.specs.declared.table.Node.{Node}
 use Rattle.diagram.proofs.Laws.Nodes.{nodes_of_length, nodes_of_at}
 use Rattle.diagram.proofs.Laws.Count.{counted_node}
 
@@ -84,27 +84,25 @@ parts_grow i d e C =
     ext_length (insert_ext (slot i low.number high.number) high.table)
 
 -- what was read of number n, and that it isn't marked
-pub record Opened (cells marks : List ℕ) (n k low high : ℕ) : Type 0 where
+pub record Opened (cells marks : List ℕ) (n k : ℕ) (x : Node) : Type 0 where
   pub big : 2 ≤ n
   pub place : k ≡ n - 2
   pub clear : marked_at marks k ≡ false
-  pub is_low : low ≡ low_of (node_at cells k)
-  pub is_high : high ≡ high_of (node_at cells k)
+  pub is : x ≡ node_of (node_at cells k)
 
 -- as `visit` finds it out, by what its callees say
-pub opens : {cells marks : List ℕ} {n k low high : ℕ} {set : Bool} → 2 ≤ n → k ≡ n - 2 → set ≡ marked_at marks k → set ≡ false →
-    low ≡ low_of (node_at cells k) → high ≡ high_of (node_at cells k) → Opened cells marks n k low high
-opens big place is clear is_low is_high =
-    record { big = big; place = place; clear = sym is ∙ clear; is_low = is_low; is_high = is_high }
+pub opens : {cells marks : List ℕ} {n k : ℕ} {x : Node} {set : Bool} → 2 ≤ n → k ≡ n - 2 → set ≡ marked_at marks k → set ≡ false
+    → x ≡ node_of (node_at cells k) → Opened cells marks n k x
+opens big place is clear read = record { big = big; place = place; clear = sym is ∙ clear; is = read }
 
 -- the slot of a used number
 used_slot : (cells : List ℕ) (used n : ℕ) → 2 ≤ n → n < length (nodes_of cells used) + 2
     → slot_at (nodes_of cells used) n ≡ node_at cells (n - 2)
 used_slot cells used n big inside = nodes_of_at cells used (n - 2) (omega (arith, nodes_of_length cells used))
 
-module _ {cells marks : List ℕ} {n so_far limit k low high : ℕ} {mid : List ℕ} {r : ℕ} {last : List ℕ} {q : ℕ}
-    (opened : Opened cells marks n k low high)
-    (first : Visited cells marks low so_far limit mid r) (second : Visited cells mid high r limit last q) where
+module _ {cells marks : List ℕ} {n so_far limit k : ℕ} {x : Node} {mid : List ℕ} {r : ℕ} {last : List ℕ} {q : ℕ}
+    (opened : Opened cells marks n k x)
+    (first : Visited cells marks x.low so_far limit mid r) (second : Visited cells mid x.high r limit last q) where
   parts : (room used : ℕ) (C : Table) (i : ℕ) (d e : Tree) → Single (nodes_of cells used)
       → Is (nodes_of cells used) n (node i d e) → Counted room (nodes_of cells used) marks so_far C
       → Tallied room (nodes_of cells used) limit last q (enter e (enter d C).table).table
@@ -119,13 +117,13 @@ module _ {cells marks : List ℕ} {n so_far limit k low high : ℕ} {mid : List 
       low_tallied : Tallied room T limit mid r (enter d C).table
       low_tallied =
           first.tallied room used C d single
-          (subst (λ m. Is T m d) (ap low_of here ∙ sym opened.is_low) is.left) counted
+          (subst (λ m. Is T m d) (ap low_of here ∙ sym (ap (λ (y : Node). y.low) opened.is)) is.left) counted
 
       high_tallied : Counted room T mid r (enter d C).table
           → Tallied room T limit last q (enter e (enter d C).table).table
       high_tallied =
           second.tallied room used (enter d C).table e single
-          (subst (λ m. Is T m e) (ap high_of here ∙ sym opened.is_high) is.right)
+          (subst (λ m. Is T m e) (ap high_of here ∙ sym (ap (λ (y : Node). y.high) opened.is)) is.right)
 
       fits : q ≤ limit → Counted room T last q (enter e (enter d C).table).table
       fits within =
@@ -178,51 +176,28 @@ module _ {cells marks : List ℕ} {n so_far limit k low high : ℕ} {mid : List 
 
 -- ---- what a visit needs
 
-module _ {cells marks : List ℕ} {n : ℕ} (visitable : Visitable cells marks n) where
-  pub visitable_inside : (k : ℕ) → 2 ≤ n → k ≡ n - 2 → Inside cells k × (k < 32 * length marks)
+module _ {cells : List ℕ} {words n : ℕ} (visitable : Visitable cells words n) where
+  pub visitable_inside : (k : ℕ) → 2 ≤ n → k ≡ n - 2 → Inside cells k × (k < 32 * words)
   visitable_inside k big place = omega (arith, visitable.room, visitable.inside, visitable.marks_room)
 
   -- numbers fall
-  pub opened_lower : {k low high : ℕ} → Opened cells marks n k low high → (low < n) × (high < n)
-  opened_lower {k} opened =
+  pub opened_lower : {marks : List ℕ} {k : ℕ} {x : Node} → Opened cells marks n k x → (x.low < n) × (x.high < n)
+  opened_lower {k = k} opened =
       let big = opened.big in
       let long = nodes_of_length cells visitable.used in
       let below : n < length (nodes_of cells visitable.used) + 2 = omega (arith, visitable.inside) in
       let here = used_slot cells visitable.used n big below ∙ ap (node_at cells) (sym opened.place) in
       let falls = visitable.falls (n - 2) (omega arith) in
-      let low = ap low_of here ∙ sym opened.is_low in
-      let high = ap high_of here ∙ sym opened.is_high in
+      let low = ap low_of here ∙ sym (ap (λ (y : Node). y.low) opened.is) in
+      let high = ap high_of here ∙ sym (ap (λ (y : Node). y.high) opened.is) in
       omega (arith, falls.low.lower, falls.high.lower)
 
-  pub visitable_lower : (m : ℕ) {mid : List ℕ} → m < n → length mid ≡ length marks → Visitable cells mid m
+  pub visitable_lower : (m : ℕ) {words' : ℕ} → m < n → words' ≡ words → Visitable cells words' m
   visitable_lower m lower same =
       record {
         used = visitable.used;
         room = visitable.room;
+        marks_room = omega (arith, visitable.marks_room, same);
         falls = visitable.falls;
-        marks_room = omega (arith, visitable.marks_room);
         inside = omega (arith, visitable.inside);
       }
-
--- ---- what a caller learns
-
--- one diagram more has been counted, or there is more to count than the limit: the test is the definition's
-pub count_next : {cells marks : List ℕ} {n so_far limit : ℕ} {after : List ℕ} {r room : ℕ} (used : ℕ) (ts : List Tree)
-    (x : Tree)
-    → Visited cells marks n so_far limit after r → Single (nodes_of cells used) → Is (nodes_of cells used) n x
-    → Counted room (nodes_of cells used) marks so_far (enter_all ts [])
-    → (ltb limit r ≡ ltb limit (count (ts ++ (x ∷ []))))
-    × (r ≤ limit → Counted room (nodes_of cells used) after r (enter_all (ts ++ (x ∷ [])) []))
-unfolding count
-count_next {cells} {limit = limit} {after = after} {r = r} {room = room} used ts x visited single is counted =
-    rw (enter_all_append ts (x ∷ []) []) (go (ltb limit r) refl, all.within)
-  where
-    all : Tallied room (nodes_of cells used) limit after r (enter x (enter_all ts [])).table
-    all = visited.tallied room used (enter_all ts []) x single is counted
-
-    go : (b : Bool) → ltb limit r ≡ b → b ≡ ltb limit (length (enter x (enter_all ts [])).table)
-    go true over = sym (lt-ltb limit _ (all.beyond (ltb-true limit r over)))
-    go false fits =
-        let within = ltb-false limit r fits in
-        let long = (all.within within).long in
-        sym (le-ltb limit _ (omega arith))

@@ -1,11 +1,23 @@
--- `Builder::node` meets its contract, by a law for each path. In an answer `test` is the place where `full` was tested,
--- three after the start.
-use Rattle.diagram.proofs.Laws.Node.{node_same, node_found}
+-- `Builder::node` meets its contract, by a law for each path.
+use borrow.Author.Tests.{eqb-true, eqb-false}
+use Rattle.std.proofs.Common.{sym}
+use Rattle.diagram.proofs.Laws.Node.{node_same, node_found, node_lacks, node_added}
 use Rattle.diagram.proofs.builder.Builder.node.Goals as goal
 
-pub returns-then-low-high : goal.returns-then-low-high
-returns-then-low-high c d e ok_d ok_e low high = node_same (c.requires.0 c.if-self.false) c.if-self.false c.requires.1 ok_d ok_e low high c.if-low-high.true
+pub returns-then-eq : goal.returns-then-eq
+returns-then-eq c d e ok_d ok_e low high =
+    node_same c.requires.ready c.requires.level ok_d ok_e low high (eqb-true c.args.node.low c.args.node.high (sym c.if-eq.ensures))
 
-pub returns-then-k-used : goal.returns-then-k-used
-returns-then-k-used c d e ok_d ok_e low high = node_found (c.requires.0 c.if-self.false) c.if-self.false c.requires.1 ok_d ok_e low high _ _ c.if-low-high.false
-    c.seek-k.ensures c.if-k-used.true c.number_of.ensures
+pub returns-in-Some : goal.returns-in-Some
+returns-in-Some c d e ok_d ok_e low high =
+    node_found c.requires.ready c.requires.level ok_d ok_e low high _ _ (eqb-false c.args.node.low c.args.node.high (sym c.if-eq.ensures)) c.in-Some.ensures c.number_of.ensures
+
+pub returns-then-slots-used : goal.returns-then-slots-used
+returns-then-slots-used c d e ok_d ok_e low high =
+    node_lacks c.requires.ready c.requires.level ok_d ok_e low high (eqb-false c.args.node.low c.args.node.high (sym c.if-eq.ensures)) c.in_default.ensures
+    (rw c.slots-slots.ensures at c.if-slots-used.true)
+
+pub returns : goal.returns
+returns c d e ok_d ok_e low high =
+    node_added c.requires.ready c.requires.level ok_d ok_e low high (eqb-false c.args.node.low c.args.node.high (sym c.if-eq.ensures)) c.in_default.ensures
+    (rw c.slots-slots.ensures at c.if-slots-used.false) c.put.ensures c.cover.ensures.index c.cover.ensures.memo c.number_of-2.ensures
