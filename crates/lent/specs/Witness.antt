@@ -1,24 +1,19 @@
--- Witness's answer in document 01's numbers.
+-- Witness's answer as numbers.
 --
---   witnessed r  number of the answer r
---   Witnesses    the answer and what is left in the buffer are document 01's
+--   Witnesses    the answer's number and what is left in the buffer are the definition's
 --   choice_at    one level's byte
-use Rattle.std.specs.Prelude.{ℕ, ◌≡◌, false, List, eqb, length}
+use Rattle.std.specs.Prelude.{ℕ, ◌≡◌, false, List, eqb, length, Result}
 use Rattle.meaning.specs.Number.{digit}
 use Rattle.meaning.specs.Solve.{after}
 use Rattle.meaning.specs.Witness.{witness}
-use Rattle.diagram.specs.State.{part_of}
-use Rattle.lent.specs.declared.witness.Witnessed.{Witnessed}
-use Rattle.lent.specs.declared.witness.Witnessed.TheVariants.{Refused, Written}
+use Rattle.diagram.specs.Table.{part_of}
+use Rattle.lent.specs.declared.refusal.Refusal.{Refusal}
 use Rattle.lent.specs.declared.witness.Choice.{Choice}
+use Rattle.lent.specs.Refusal.{outcome}
 
-abbrev pub witnessed : Witnessed → ℕ
-witnessed (Refused number) = number
-witnessed Written = 0
-
--- the answer's number, and what is left in the buffer that held a, are document 01's
-pub record Witnesses (t : List ℕ) (used n : ℕ) (a : List ℕ) (r : Witnessed) (left : List ℕ) : Type 0 where
-  pub number : witnessed r ≡ (witness t used n (length a)).number
+-- the answer's number, and what is left in the buffer that held a, are the definition's
+pub record Witnesses (t : List ℕ) (used n : ℕ) (a : List ℕ) (r : Result (Unit {0}) Refusal) (left : List ℕ) : Type 0 where
+  pub number : outcome r ≡ (witness t used n (length a)).number
   pub buffer : left ≡ after (witness t used n (length a)).assignment a
 
 -- level l's byte in the least assignment that number n accepts, and n with that value at level l

@@ -1,49 +1,93 @@
-// A lent table: any numbers at all. What has to be seen before a number of it is followed.
-ghost use Rattle.std.specs.Prelude.{◌≡◌, ◌-◌, ◌<◌, ◌≤◌, length};
+//! A lent table: any numbers at all. What has to be seen before a diagram of it is followed.
+ghost use Rattle.std.specs.Prelude.{◌≡◌, ◌-◌, ◌<◌, ◌≤◌, length, OnOk, Some};
 ghost use Rattle.meaning.specs.Lent.{node_at, sound_child, sound_node, bad_nodes};
-ghost use Rattle.diagram.specs.State.{Inside};
-ghost use Rattle.lent.specs.Refusal.{buffers_refusal, diagram_refusal};
+ghost use Rattle.diagram.specs.Table.{Inside};
+ghost use Rattle.lent.specs.Followed.{Followed};
+ghost use Rattle.lent.specs.Refusal.{number_of, text_of, outcome, buffers_refusal, diagram_refusal};
 
+use diagram::number::Diagram;
 use diagram::table;
 use diagram::table::{Cell, LEVELS};
+use std::error::Error;
+use std::fmt;
+
+/// Why value or witness refuses.
+#[derive(Clone, Copy, Debug, PartialEq, Eq)]
+pub enum Refusal {
+    /// 9: the table's length is no multiple of 3, or above 3,145,728 numbers.
+    Table,
+    /// 12: more used nodes than the table has room for, or a used node that can't be followed.
+    Nodes,
+    /// 13: the assignment isn't 128 bytes long.
+    Assignment,
+    /// 14: a byte of the assignment is neither 0 nor 1.
+    Byte,
+    /// 15: the witness of false, which accepts nothing.
+    False,
+    /// 16: the diagram's number is neither 0 nor 1 nor a used node's.
+    Number,
+}
+
+/// A refusal's number.
+impl From<Refusal> for u32 {
+    ghost from_gives = { λ refusal number. number ≡ number_of refusal };
+
+    fn from(refusal: Refusal) -> u32 {
+        match refusal {
+            Refusal::Table => 9,
+            Refusal::Nodes => 12,
+            Refusal::Assignment => 13,
+            Refusal::Byte => 14,
+            Refusal::False => 15,
+            Refusal::Number => 16,
+        }
+    }
+}
+
+impl fmt::Display for Refusal {
+    ghost output = { λ refusal. Some (text_of refusal) };
+
+    fn fmt<W: fmt::Write>(&self, f: &mut fmt::Formatter<W>) -> fmt::Result {
+        f.write_str(match self {
+            Refusal::Table => "the table's length is no multiple of 3, or too large",
+            Refusal::Nodes =>
+                "there are more used nodes than the table has room for, or one of them can't be followed",
+            Refusal::Assignment => "the assignment isn't 128 bytes long",
+            Refusal::Byte => "a byte of the assignment is neither 0 nor 1",
+            Refusal::False => "no assignment makes false true",
+            Refusal::Number => "no diagram has this number",
+        })
+    }
+}
+
+impl Error for Refusal {}
 
 // A child of node number n at this level: below it in number and, if it is a node, of a higher level.
-fn sound_child(t: &[Cell], n: u32, level: u32, child: u32) -> bool
-    requires { (2 ≤ n) × Inside t.now (n - 2) }
+fn sound_child(t: &[Cell], n: Diagram, level: u32, child: Diagram) -> bool
+    requires node { 2 ≤ n }
+    requires inside { Inside t.now (n - 2) }
     ensures { result ≡ sound_child t.now n level child }
 {
-    if n <= child {
-        return false;
-    }
-    if child < 2 {
-        return true;
-    }
-    level < table::level(t, table::slot_of(child))
+    child.number() < n.number()
+        && (child.is_terminal() || level < table::node_at(t, table::slot_of(child)).level)
 }
 
 // Slot k: the level, both children, and that they differ.
 fn sound_node(t: &[Cell], k: usize) -> bool
-    requires { Inside t.now k × (k < 1048576) }
+    requires inside { Inside t.now k }
+    requires slot { k < 1048576 }
     ensures { result ≡ sound_node t.now k (node_at t.now k) }
 {
     let n = table::number_of(k);
-    let level = table::level(t, k);
-    let low = table::low(t, k);
-    let high = table::high(t, k);
-    if LEVELS <= level {
-        return false;
-    }
-    if !sound_child(t, n, level, low) {
-        return false;
-    }
-    if !sound_child(t, n, level, high) {
-        return false;
-    }
-    low != high
+    let node = table::node_at(t, k);
+    node.level < LEVELS
+        && sound_child(t, n, node.level, node.low)
+        && sound_child(t, n, node.level, node.high)
+        && node.low != node.high
 }
 
-// 12: used count above the slots, or a used node that is not sound.
-#[tactic(auto, using(crate::proofs::Laws::Refusal::nodes_above, crate::proofs::Laws::Refusal::nodes_bad, crate::proofs::Laws::Refusal::nodes_good))]
+// Are there more used nodes than slots, or is one of them not sound?
+#[tactic(auto, using(crate::proofs::Laws::Refusal::unsound), unfolding(meaning::specs::Lent::bad_nodes))]
 fn bad_nodes(t: &[Cell], used: u32) -> bool
     requires { length t.now ≤ 3145728 }
     ensures { result ≡ bad_nodes t.now used }
@@ -52,41 +96,43 @@ fn bad_nodes(t: &[Cell], used: u32) -> bool
     if table::slots(t) < end {
         return true;
     }
-    let mut k = 0;
-    while k < end {
+    for k in 0..end {
         if !sound_node(t, k) {
             return true;
         }
-        k += 1;
     }
     false
 }
 
-// The first cause met of 9 and 13, or 0: the table, and an assignment buffer of this length.
+/// Looks at the table's length and the assignment's: `Table`, then `Assignment`.
 #[tactic(auto, unfolding(crate::specs::Refusal::buffers_refusal))]
-pub fn buffers_refusal(t: &[Cell], bytes: usize) -> u32
-    ensures { result ≡ buffers_refusal (length t.now) bytes }
+pub fn check_buffers(t: &[Cell], bytes: usize) -> Result<(), Refusal>
+    ensures number { outcome result ≡ buffers_refusal (length t.now) bytes }
+    ensures table { OnOk result (length t.now ≤ 3145728) }
+    ensures assignment { OnOk result (bytes ≡ 128) }
 {
     if table::bad_length(t) {
-        return 9;
+        return Err(Refusal::Table);
     }
     if bytes != LEVELS as usize {
-        return 13;
+        return Err(Refusal::Assignment);
     }
-    0
+    Ok(())
 }
 
-// The first cause met of 12 and 16, or 0: the used nodes, and a diagram's number.
+/// Looks at the used nodes and at a diagram's number: `Nodes`, then `Number`.
 #[tactic(auto, using(crate::proofs::Laws::Refusal::nodes_few), unfolding(crate::specs::Refusal::diagram_refusal))]
-pub fn diagram_refusal(t: &[Cell], used: u32, n: u32) -> u32
+pub fn check_diagram(t: &[Cell], used: u32, n: Diagram) -> Result<(), Refusal>
     requires { length t.now ≤ 3145728 }
-    ensures { result ≡ diagram_refusal t.now used n }
+    ensures number { outcome result ≡ diagram_refusal t.now used n }
+    ensures follows { OnOk result (Followed t.now n) }
 {
     if bad_nodes(t, used) {
-        return 12;
+        return Err(Refusal::Nodes);
     }
-    if used + 1 < n {
-        return 16;
+    let beyond = used + 1 < n.number();
+    if beyond {
+        return Err(Refusal::Number);
     }
-    0
+    Ok(())
 }

@@ -1,80 +1,77 @@
-// Value: a diagram's truth under an assignment, and how many nodes are passed on the way. Nothing is written.
-ghost use Rattle.std.specs.Prelude.{◌≡◌, cond, eqb, length};
-ghost use Rattle.meaning.specs.Lent.{node_at, low_of, high_of};
+//! Value: a diagram's truth under an assignment, and how many nodes are passed on the way. Nothing is written.
+ghost use Rattle.std.specs.Prelude.{◌≡◌, not, cond, eqb, length};
+ghost use Rattle.meaning.specs.Check.{refuse};
 ghost use Rattle.meaning.specs.Value.{are_bits, value};
-ghost use Rattle.diagram.specs.State.{Inside};
 ghost use Rattle.lent.specs.Followed.{Followed};
+ghost use Rattle.lent.specs.Refusal.{outcome};
 ghost use Rattle.lent.specs.Value.{told, valued};
 
 use crate::refusal;
+use crate::refusal::Refusal;
+use diagram::number::Diagram;
 use diagram::table;
-use diagram::table::Cell;
+use diagram::table::{Cell, Node};
 
-#[derive(Clone, Copy)]
-pub enum Valued {
-    Refused(u32),
-    Bit { bit: u32, passed: u32 },
+/// A diagram's truth, and the number of nodes passed on the way, at most 128.
+#[derive(Clone, Copy, Debug, PartialEq, Eq)]
+pub struct Valued {
+    pub bit: bool,
+    pub passed: u32,
 }
 
 // Is every byte 0 or 1?
 fn are_bits(a: &[u8]) -> bool
     ensures { result ≡ are_bits a.now }
 {
-    let mut i = 0;
-    while i < a.len() {
-        if 2 <= a[i] {
-            return false;
-        }
-        i += 1;
-    }
-    true
+    a.iter().all(|byte| *byte < 2)
 }
 
-// The part of slot k that the level's byte chooses.
-fn chosen(t: &[Cell], k: usize, byte: u8) -> u32
-    requires { Inside t.now k }
-    ensures { result ≡ cond (eqb byte 1) (high_of (node_at t.now k)) (low_of (node_at t.now k)) }
+// Looks at the assignment's bytes: `Byte`.
+fn check_bits(a: &[u8]) -> Result<(), Refusal>
+    ensures { outcome result ≡ refuse 14 (not (are_bits a.now)) 0 }
 {
-    if byte == 1 {
-        return table::high(t, k);
+    if !are_bits(a) {
+        return Err(Refusal::Byte);
     }
-    table::low(t, k)
+    Ok(())
 }
 
-// From number n down to a terminal.
+// The part of a node that the level's byte chooses.
+fn chosen(node: Node, byte: u8) -> Diagram
+    ensures { result ≡ cond (eqb byte 1) node.high node.low }
+{
+    if byte == 1 { node.high } else { node.low }
+}
+
+// From diagram n down to a terminal.
 #[tactic(auto, using(crate::proofs::Laws::Followed::followed_inside, crate::proofs::Laws::Value::step_less, crate::proofs::Laws::Value::way_level))]
-fn walk(t: &[Cell], n: u32, a: &[u8]) -> Valued
-    requires { Followed t.now n × (length a.now ≡ 128) }
+fn walk(t: &[Cell], n: Diagram, a: &[u8]) -> Valued
+    requires follows { Followed t.now n }
+    requires long { length a.now ≡ 128 }
     ensures { result ≡ told t.now n a.now }
 {
     let mut at = n;
     let mut passed = 0;
-    while 2 <= at {
-        let k = table::slot_of(at);
-        let level = table::level(t, k) as usize;
+    // A `while`: how many nodes lie on the way is known only at its end.
+    while !at.is_terminal() {
+        let node = table::node_at(t, table::slot_of(at));
         passed += 1;
-        at = chosen(t, k, a[level]);
+        at = chosen(node, a[node.level as usize]);
     }
-    Valued::Bit { bit: at, passed }
+    Valued {
+        bit: at == Diagram::TRUE,
+        passed,
+    }
 }
 
-// The bit of diagram n under the assignment a, one byte a level, and the number of nodes passed; or the first cause met
-// of 9, 13, 14, 12, 16.
-#[tactic(auto, using(crate::proofs::Laws::Refusal::buffers_fit, crate::proofs::Laws::Followed::diagram_followed, crate::proofs::Laws::Value::value_buffers, crate::proofs::Laws::Value::value_bits, crate::proofs::Laws::Value::value_diagram, crate::proofs::Laws::Value::value_answered))]
-pub fn value(t: &[Cell], used: u32, n: u32, a: &[u8]) -> Valued
+/// The truth of diagram n under the assignment a, one byte a level, and the number of nodes passed. The error is the first
+/// of these that is there: `Table`, `Assignment`, `Byte`, `Nodes`, `Number`.
+#[tactic(auto, using(crate::proofs::Laws::Value::value_answered))]
+pub fn value(t: &[Cell], used: u32, n: Diagram, a: &[u8]) -> Result<Valued, Refusal>
     ensures { valued result ≡ value t.now used n a.now }
 {
-    let buffers = refusal::buffers_refusal(t, a.len());
-    if buffers != 0 {
-        return Valued::Refused(buffers);
-    }
-    let bits = are_bits(a);
-    let diagram = refusal::diagram_refusal(t, used, n);
-    if !bits {
-        return Valued::Refused(14);
-    }
-    if diagram != 0 {
-        return Valued::Refused(diagram);
-    }
-    walk(t, n, a)
+    refusal::check_buffers(t, a.len())?;
+    check_bits(a)?;
+    refusal::check_diagram(t, used, n)?;
+    Ok(walk(t, n, a))
 }

@@ -1,29 +1,17 @@
 -- A number that can be followed in a lent table, and where it leads.
-use Prim.Native.Nat.{ℕ, zero, suc, ◌+◌, ◌-◌, ◌≤◌, ◌<◌}
+use Prim.Native.Nat.{ℕ, zero, suc, ◌-◌, ◌≤◌, ◌<◌}
 use native.Mathlib.Omega.{arith}
-use mathlib.Core.Path.{◌≡◌, refl, sym, ◌∙◌}
+use mathlib.Core.Path.{◌≡◌, refl}
 use mathlib.Core.Bool.{Bool, true, false, cond}
 use mathlib.Core.List.{List}
-use lib.Dec.{eqb, ltb}
+use lib.Dec.{eqb}
 use lib.ListN.{length}
-use borrow.Author.Tests.{ltb-false}
-use Rattle.meaning.specs.Number.{digit}
 use Rattle.meaning.specs.Diagram.{Tree, leaf, node}
 use Rattle.meaning.specs.Solve.{slots}
-use Rattle.meaning.specs.Lent.{node_at, level_of, low_of, high_of, bad_nodes, tree_of}
+use Rattle.meaning.specs.Lent.{node_at, level_of, low_of, high_of, tree_of}
 use Rattle.meaning.proofs.Laws.Lent.{Sound, bad_nodes_sound, bad_nodes_fits, tree_of_false, tree_of_true, tree_of_node}
-use Rattle.meaning.proofs.Laws.Value.{refuse_none}
-use Rattle.diagram.specs.State.{Readable}
-use Rattle.lent.specs.Refusal.{diagram_refusal}
+use Rattle.diagram.specs.Table.{Readable}
 use Rattle.lent.specs.Followed.{Followed}
-
--- where neither 12 nor 16 has a cause
-pub diagram_followed : {r : ℕ} (t : List ℕ) (used n : ℕ) → r ≡ diagram_refusal t used n → r ≡ 0 → Followed t n
-unfolding diagram_refusal
-diagram_followed t used n is none =
-    let past = refuse_none 11 (bad_nodes t used) _ (sym is ∙ none) in
-    let within = ltb-false (used + 1) n (refuse_none 15 (ltb (used + 1) n) 0 past.1).0 in
-    record { used = used; sound = past.0; inside = omega arith }
 
 -- a node that can be followed lies inside the table
 pub followed_inside : {t : List ℕ} {n : ℕ} → Followed t n → Readable t n
@@ -54,8 +42,3 @@ pub tree_of_terminal : (t : List ℕ) (n : ℕ) → n < 2 → tree_of t n ≡ le
 tree_of_terminal t zero small = tree_of_false t
 tree_of_terminal t (suc zero) small = tree_of_true t
 tree_of_terminal t (suc (suc n)) small = absurd (omega arith)
-
-pub terminal_digit : (n : ℕ) → n < 2 → n ≡ digit (eqb n 1)
-terminal_digit zero small = refl
-terminal_digit (suc zero) small = refl
-terminal_digit (suc (suc n)) small = absurd (omega arith)

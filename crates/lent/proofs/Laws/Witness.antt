@@ -1,14 +1,15 @@
--- Witness: level by level the bytes are those of the least assignment, and the first refusal met is document 01's.
+-- Witness: level by level the bytes are those of the least assignment, and the first refusal met is the definition's.
 use Prim.Native.Nat.{ℕ, suc, ◌+◌, ◌-◌, ◌≤◌, ◌<◌}
 use native.Mathlib.Omega.{arith}
 use native.Mathlib.Numerals.{add-one}
 use mathlib.Core.Path.{◌≡◌, refl, sym, ap, ◌∙◌}
 use mathlib.Core.Bool.{Bool, true, false, cond, not}
-use mathlib.Core.List.{List, [], ◌∷◌, ◌++◌, map, append-nil, append_assoc}
+use mathlib.Core.List.{List, [], ◌∷◌, ◌++◌, map, append_assoc}
+use Rattle.std.specs.Prelude.{Result, Ok, Err}
 use lib.Dec.{eqb, ltb}
 use lib.ListN.{length, take, set, length-set}
-use lib.Seq.{take-suc-set, take_all}
-use borrow.Author.Tests.{ltb-true, ltb-false, eq-eqb, ne_eqb}
+use lib.Seq.{take-suc-set}
+use borrow.Author.Tests.{ltb-true, ltb-false}
 use Rattle.meaning.specs.Number.{digit}
 use Rattle.meaning.specs.Check.{refuse, first}
 use Rattle.meaning.specs.Diagram.{Tree, leaf, node, same}
@@ -17,25 +18,15 @@ use Rattle.meaning.specs.Solve.{bad_table}
 use Rattle.meaning.specs.Lent.{node_at, level_of, low_of, high_of, bad_nodes, tree_of}
 use Rattle.meaning.specs.Witness.{part, least, witness_refusal, witness}
 use Rattle.meaning.proofs.Laws.Lent.{tree_of_zero_only}
-use Rattle.diagram.specs.State.{part_of}
-use Rattle.lent.specs.Refusal.{buffers_refusal, diagram_refusal}
+use Rattle.diagram.specs.Table.{part_of}
+use Rattle.lent.specs.Refusal.{number_of, buffers_refusal, diagram_refusal}
 use Rattle.lent.specs.Followed.{Followed}
 use Rattle.lent.specs.Witness.{choice_at, Witnesses}
-use Rattle.lent.specs.declared.witness.Witnessed.TheVariants.{Refused, Written}
+use Rattle.lent.specs.declared.refusal.Refusal.{Refusal}
+use Rattle.lent.specs.declared.refusal.Refusal.TheVariants.{False}
 use Rattle.lent.specs.declared.witness.Choice.{Choice}
-use Rattle.lent.proofs.Laws.Refusal.{met, unmet, first_stops, first_passes, two_first}
+use Rattle.lent.proofs.Laws.Refusal.{refuses, first_refuses, first_passes, two_first}
 use Rattle.lent.proofs.Laws.Followed.{followed_node, followed_lower, followed_tree, either_tree, tree_of_terminal}
-
--- ---- choose
-
-module _ (t : List ℕ) (l n : ℕ) {low : ℕ} (is : low ≡ part_of t false l n) where
-  pub choice_high : {high : ℕ} → low ≡ 0 → high ≡ part_of t true l n → record { byte = 1; rest = high } ≡ choice_at t l n
-  unfolding choice_at
-  choice_high none rest = rw (← is, eq-eqb low 0 none, rest)
-
-  pub choice_low : (low ≡ 0 → ⊥) → record { byte = 0; rest = low } ≡ choice_at t l n
-  unfolding choice_at
-  choice_low some = rw (← is, ne_eqb low 0 some, is)
 
 -- ---- parts
 
@@ -112,12 +103,8 @@ least_choice {t} {n} follows m l =
 -- levels below l are written, and number `at` is left of n
 pub record Filled (t : List ℕ) (n : ℕ) (a : List ℕ) (at l : ℕ) : Type 0 where
   pub follows : Followed t at
-  pub within : l ≤ 128
   pub long : length a ≡ 128
   pub bytes : take l a ++ least_bytes (128 - l) l t at ≡ least_bytes 128 0 t n
-
-pub filled_start : {t : List ℕ} {n : ℕ} {a : List ℕ} → Followed t n → length a ≡ 128 → Filled t n a n 0
-filled_start follows long = record { follows = follows; within = omega arith; long = long; bytes = refl }
 
 pub filled_next : {t : List ℕ} {n : ℕ} {a : List ℕ} {at l : ℕ} {c : Choice} → Filled t n a at l → l < 128
     → c ≡ choice_at t l at → Filled t n (set a l c.byte) c.rest (l + 1)
@@ -133,23 +120,16 @@ filled_next {t} {n} {a} {at} {l} {c} filled inside is =
     ∙ sym (least_choice filled.follows (128 - suc l) l) ∙ ap (λ m. least_bytes m l t at) (sym left) in
     record {
       follows = rw is (part_followed filled.follows b l);
-      within = omega arith;
       long = length-set a l c.byte ∙ long;
       bytes =
           rw (add-one l, written)
           (append_assoc (take l a) (c.byte ∷ []) _ ∙ ap {B = List ℕ} (λ r. take l a ++ r) rest ∙ filled.bytes);
     }
 
-pub filled_done : {t : List ℕ} {n : ℕ} {a : List ℕ} {at l : ℕ} → Filled t n a at l → 128 ≤ l → a ≡ least_bytes 128 0 t n
-filled_done {t} {n} {a} {at} {l} filled end =
-    let all : take l a ≡ a = take_all l a (omega (arith, filled.long)) in
-    let none : 128 - l ≡ 0 = omega arith in
-    sym (append-nil a) ∙ (rw (all, none) at filled.bytes)
-
 -- ---- witness
 
 module _ (t : List ℕ) (used n : ℕ) (a : List ℕ) where
-  -- document 01's order
+  -- in the order in which the code looks
   order : first (buffers_refusal (length t) (length a)) (first (diagram_refusal t used n) (refuse 15 (eqb n 0) 0))
       ≡ witness_refusal t used n (length a)
   unfolding witness_refusal buffers_refusal diagram_refusal
@@ -158,30 +138,29 @@ module _ (t : List ℕ) (used n : ℕ) (a : List ℕ) where
       ∙ ap (λ later. refuse 9 (bad_table (length t)) (refuse 13 (not (eqb (length a) 128)) later))
       (two_first 11 15 (bad_nodes t used) (ltb (used + 1) n) _)
 
-  refused : {r : ℕ} → r ≡ witness_refusal t used n (length a) → (r ≡ 0 → ⊥) → Witnesses t used n a (Refused r) a
+  refused : {refusal : Refusal} → number_of refusal ≡ witness_refusal t used n (length a)
+      → {r : Result (Unit {0}) Refusal} → r ≡ Err refusal → Witnesses t used n a r a
   unfolding witness
-  refused {r} is some =
-      record { number = rw (← is, ne_eqb r 0 some); buffer = rw (← is, ne_eqb r 0 some) }
+  refused {refusal} is error = rw error (record { number = rw (← is, refuses refusal); buffer = rw (← is, refuses refusal) })
 
-  pub witness_buffers : {r : ℕ} → r ≡ buffers_refusal (length t) (length a) → (r ≡ 0 → ⊥)
-      → Witnesses t used n a (Refused r) a
-  witness_buffers is some = refused (first_stops _ is some ∙ order) some
+  pub witness_buffers : {refusal : Refusal} → number_of refusal ≡ buffers_refusal (length t) (length a)
+      → {r : Result (Unit {0}) Refusal} → r ≡ Err refusal → Witnesses t used n a r a
+  witness_buffers is = refused (first_refuses _ _ is ∙ order)
 
-  module _ {r : ℕ} (is : r ≡ buffers_refusal (length t) (length a)) (none : r ≡ 0)
-      {q : ℕ} (leads : q ≡ diagram_refusal t used n) where
-    pub witness_diagram : (q ≡ 0 → ⊥) → Witnesses t used n a (Refused q) a
-    witness_diagram some = refused (first_passes is none (first_stops _ leads some) ∙ order) some
+  module _ (fit : 0 ≡ buffers_refusal (length t) (length a)) where
+    pub witness_diagram : {refusal : Refusal} → number_of refusal ≡ diagram_refusal t used n
+        → {r : Result (Unit {0}) Refusal} → r ≡ Err refusal → Witnesses t used n a r a
+    witness_diagram is = refused (first_passes fit (first_refuses _ _ is) ∙ order)
 
-    module _ (sound : q ≡ 0) where
-      pub witness_never : n ≡ 0 → Witnesses t used n a (Refused 15) a
+    module _ (sound : 0 ≡ diagram_refusal t used n) where
+      pub witness_never : eqb n 0 ≡ true → Witnesses t used n a (Err False) a
       witness_never never =
-          refused (first_passes is none (first_passes leads sound (met 0 (eq-eqb n 0 never))) ∙ order)
-          (λ zero. omega arith)
+          refused (first_passes fit (first_passes sound (rw never)) ∙ order) refl
 
-      pub witness_answered : (n ≡ 0 → ⊥) → {left : List ℕ} → left ≡ least_bytes 128 0 t n
-          → Witnesses t used n a Written left
+      pub witness_answered : eqb n 0 ≡ false → {left : List ℕ} → left ≡ least_bytes 128 0 t n
+          → Witnesses t used n a (Ok tt) left
       unfolding witness
       witness_answered some written =
           let past : 0 ≡ witness_refusal t used n (length a) =
-          first_passes is none (first_passes leads sound (unmet 15 (ne_eqb n 0 some) refl)) ∙ order in
+          first_passes fit (first_passes sound (rw some)) ∙ order in
           record { number = rw (← past); buffer = rw (← past) written }

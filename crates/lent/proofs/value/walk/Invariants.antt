@@ -4,7 +4,7 @@ use Rattle.lent.proofs.Laws.Value.{Way}
 use Rattle.lent.proofs.value.walk.Given as goal
 
 abbrev pub invariant-loop-at : goal.invariant-loop-at
-invariant-loop-at l = Way l.t l.n l.a l.at l.passed
+invariant-loop-at l = Way l.t l.fn.n l.a l.at l.passed
 
 abbrev pub decreases-loop-at : goal.decreases-loop-at
 decreases-loop-at l = l.at

@@ -1,7 +1,6 @@
--- `witness::fill` meets its contract. The loop's invariant: the bytes written, then those of the least assignment that
--- the number left accepts from here on, are the least assignment.
+-- `witness::fill` meets its contract.
 use Rattle.lent.proofs.Laws.Witness.{filled_next}
 use Rattle.lent.proofs.witness.fill.Goals as goal
 
 pub loop-l-preserved : goal.loop-l-preserved
-loop-l-preserved c = filled_next c.loop-l.invariant c.loop-l-test.true c.choose-c.ensures
+loop-l-preserved c = filled_next c.loop-l.invariant c.loop-l-test.true c.choose-choice.ensures

@@ -1,11 +1,7 @@
 -- `witness::fill` meets its contract. The loop's invariant: the bytes written, then those of the least assignment that
 -- the number left accepts from here on, are the least assignment.
-use Prim.Native.Nat.{◌-◌}
 use Rattle.lent.proofs.Laws.Witness.{Filled}
 use Rattle.lent.proofs.witness.fill.Given as goal
 
 abbrev pub invariant-loop-l : goal.invariant-loop-l
-invariant-loop-l l = Filled l.t l.n l.a l.at l.l
-
-abbrev pub decreases-loop-l : goal.decreases-loop-l
-decreases-loop-l l = 128 - l.l
+invariant-loop-l l = Filled l.t l.fn.n l.a l.at l.l

@@ -1,29 +1,22 @@
 -- `witness::witness` meets its contract.
-use Rattle.lent.proofs.Laws.Refusal.{buffers_fit}
-use Rattle.lent.proofs.Laws.Followed.{diagram_followed}
+use Rattle.std.proofs.Common.{rules}
+use mathlib.Core.Path.{sym, ◌∙◌}
+use Rattle.lent.proofs.Laws.Refusal.{result_err}
 use Rattle.lent.proofs.Laws.Witness.{witness_buffers, witness_diagram, witness_never, witness_answered}
 use Rattle.lent.proofs.witness.witness.Goals as goal
 
-pub returns-then-buffers-ne0 : goal.returns-then-buffers-ne0
-returns-then-buffers-ne0 c = witness_buffers _ _ _ _ c.buffers_refusal-buffers.ensures c.if-buffers-ne0.true
+pub returns-in_err-check_buffers : goal.returns-in_err-check_buffers
+returns-in_err-check_buffers c =
+    let error = result_err _ c.from_residual.ensures.1 in search (rules, witness_buffers)
 
-pub diagram_refusal-diagram-requires : goal.diagram_refusal-diagram-requires
-diagram_refusal-diagram-requires c = (buffers_fit _ _ c.buffers_refusal-buffers.ensures c.if-buffers-ne0.false).0
+pub returns-in_err-check_diagram : goal.returns-in_err-check_diagram
+returns-in_err-check_diagram c =
+    let error = result_err _ c.from_residual-in_err-check_diagram.ensures.1 in search (rules, witness_diagram)
 
-pub returns-then-diagram-ne0 : goal.returns-then-diagram-ne0
-returns-then-diagram-ne0 c = witness_diagram _ _ _ _ c.buffers_refusal-buffers.ensures c.if-buffers-ne0.false
-    c.diagram_refusal-diagram.ensures c.if-diagram-ne0.true
-
-pub returns-then-n-eq0 : goal.returns-then-n-eq0
-returns-then-n-eq0 c = witness_never _ _ _ _ c.buffers_refusal-buffers.ensures c.if-buffers-ne0.false
-    c.diagram_refusal-diagram.ensures c.if-diagram-ne0.false c.if-n-eq0.true
-
-pub fill-requires : goal.fill-requires
-fill-requires c = (
-  diagram_followed _ _ _ c.diagram_refusal-diagram.ensures c.if-diagram-ne0.false,
-  (buffers_fit _ _ c.buffers_refusal-buffers.ensures c.if-buffers-ne0.false).1,
-)
+pub returns-then-eq : goal.returns-then-eq
+returns-then-eq c = search (rules, witness_never)
 
 pub returns : goal.returns
-returns c = witness_answered _ _ _ c.args.a.now c.buffers_refusal-buffers.ensures c.if-buffers-ne0.false
-    c.diagram_refusal-diagram.ensures c.if-diagram-ne0.false c.if-n-eq0.false c.fill.ensures
+returns c =
+    witness_answered _ _ _ _ c.in_ok-check_buffers.ensures.number c.in_ok-check_diagram.ensures.number
+    (sym c.eq.ensures ∙ c.if-eq.false) c.fill.ensures
