@@ -1,6 +1,5 @@
 -- Theorems about the definitions, by subject.
 pub mod Kind
-pub mod Read
 pub mod Contents
 pub mod Sheet
 pub mod Operands

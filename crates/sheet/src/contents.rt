@@ -1,15 +1,15 @@
-// Refusals 1, 2 and 3: the table of contents and where the bodies lie.
-ghost use Rattle.std.specs.Prelude.{◌≡◌, ◌≤◌, length};
-ghost use Rattle.meaning.specs.Kind.{Sort};
-ghost use Rattle.meaning.specs.Sheet.{record_at};
+//! Refusals 1, 2 and 3: the table of contents and where the bodies lie.
+ghost use Rattle.std.specs.Prelude.{◌≡◌, ◌+◌, ◌≤◌, length};
+ghost use Rattle.meaning.specs.Kind.{rule_of};
+ghost use Rattle.meaning.specs.Sheet.{record_at, rule_at, width_at};
 ghost use Rattle.meaning.specs.Check.{short, allowed, kinds_fit, places_fit};
-ghost use Rattle.sheet.specs.Kind.{sort_code};
+ghost use Rattle.sheet.specs.Kind.{number_of};
 
-use crate::kind::{FORMULA, NEITHER};
-use crate::read::{count, kind, place, width};
+use crate::kind::{Kind, Sort};
+use crate::read::{body_length, count, kind, place, width};
 
-// 1: fewer than 2 bytes; N not 1..256; fewer than 2 + 4N bytes.
-#[tactic(auto, using(crate::proofs::Laws::Contents::short_bytes, crate::proofs::Laws::Contents::short_none, crate::proofs::Laws::Contents::short_many, crate::proofs::Laws::Contents::short_records))]
+/// 1: fewer than 2 bytes; N not 1..256; fewer than 2 + 4N bytes.
+#[tactic(auto, unfolding(meaning::specs::Check::short))]
 pub fn short(s: &[u8]) -> bool
     ensures { result ≡ short s.now }
 {
@@ -17,64 +17,57 @@ pub fn short(s: &[u8]) -> bool
         return true;
     }
     let n = count(s);
-    if n < 1 {
-        return true;
-    }
-    if 256 < n {
-        return true;
-    }
-    s.len() < 2 + 4 * n
+    n < 1 || 256 < n || s.len() < 2 + 4 * n
 }
 
-// Is this width allowed for the sort? Terms have width 1 to 32, formulas width 0.
-fn allowed(sort: u8, width: u32) -> bool
-    ensures { (x : Sort) → sort ≡ sort_code x → result ≡ allowed x width }
+// Is this width allowed for the kind? Terms have width 1 to 32, formulas width 0.
+fn allowed(kind: Kind, width: u32) -> bool
+    ensures { result ≡ allowed (rule_of (number_of kind)).sort width }
 {
-    if sort == NEITHER {
-        return false;
+    match kind.rule().sort {
+        Sort::Formula => width == 0,
+        Sort::Variable | Sort::Term => 1 <= width && width <= 32,
     }
-    if sort == FORMULA {
-        return width == 0;
-    }
-    if width < 1 {
-        return false;
-    }
-    width <= 32
 }
 
-// 2: every kind is in the table, and every width is allowed for its sort.
+// Entry i's kind is in the table, and its width is allowed.
+fn kind_fits(s: &[u8], i: usize) -> bool
+    requires { record_at (i + 1) ≤ length s.now }
+    ensures { result ≡ allowed (rule_at s.now i).sort (width_at s.now i) }
+{
+    match kind(s, i) {
+        Some(kind) => allowed(kind, width(s, i)),
+        None => false,
+    }
+}
+
+/// 2: every kind is in the table, and every width is allowed for its sort.
 #[tactic(auto, using(crate::proofs::Laws::Contents::kinds_more, crate::proofs::Laws::Contents::kinds_stop))]
 pub fn kinds_fit(s: &[u8], n: usize) -> bool
     requires { record_at n ≤ length s.now }
     ensures { result ≡ kinds_fit s.now 0 n }
 {
-    let mut i = 0;
-    while i < n {
-        let kind = kind(s, i);
-        let width = width(s, i);
-        if !allowed(kind.sort, width) {
+    for i in 0..n {
+        if !kind_fits(s, i) {
             return false;
         }
-        i += 1;
     }
     true
 }
 
-// 3: bodies lie back to back from the contents' end on, and the last ends with the sheet.
-#[tactic(auto, using(crate::proofs::Laws::Kind::codes_small, crate::proofs::Laws::Contents::places_more))]
+/// 3: bodies lie back to back from the contents' end on, and the last ends with the sheet.
+#[tactic(auto, using(crate::proofs::Laws::Contents::places_more, crate::proofs::Laws::Contents::places_stop))]
 pub fn places_fit(s: &[u8], n: usize) -> bool
-    requires { (record_at n ≤ length s.now) × (n ≤ 256) }
+    requires records { record_at n ≤ length s.now }
+    requires few { n ≤ 256 }
     ensures { result ≡ places_fit s.now 0 n (record_at n) }
 {
     let mut at = 2 + 4 * n;
-    let mut i = 0;
-    while i < n {
+    for i in 0..n {
         if place(s, i) != at {
             return false;
         }
-        let kind = kind(s, i);
-        at += kind.body as usize;
-        i += 1;
+        at += body_length(s, i);
     }
     at == s.len()
 }

@@ -1,238 +1,269 @@
-// The short table of kinds: for each kind its sort, its body length, what its operands have to be and how widths fit.
+//! The kinds of entries, and the short table of kinds: for each kind its sort, its body's length, what its operands have to be
+//! and how widths fit.
 ghost use Rattle.std.specs.Prelude.{◌≡◌};
 ghost use Rattle.meaning.specs.Kind.{rule_of};
-ghost use Rattle.sheet.specs.Kind.{codes_of};
+ghost use Rattle.meaning.specs.Level.{bits_of};
+ghost use Rattle.meaning.specs.Check.{is_formula};
+ghost use Rattle.sheet.specs.Kind.{number_of, sort_as, row_as, Decodes};
 
-// A row of the table, all bytes: the shorter the table the faster. specs/Kind.antt gives its numbers from the definition's row.
-#[derive(Clone, Copy)]
-pub struct Kind {
-    pub sort: u8,
-    // in bytes
-    pub body: u8,
-    pub operands: u8,
-    // what each of them has to be
-    pub first: u8,
-    pub second: u8,
-    pub third: u8,
-    pub widths: u8,
+/// What an entry is: terms up to `Choose`, then formulas.
+#[derive(Clone, Copy, Debug, PartialEq, Eq)]
+pub enum Kind {
+    Variable,
+    Constant,
+    BitNot,
+    Negate,
+    BitAnd,
+    BitOr,
+    BitXor,
+    Add,
+    Multiply,
+    ShiftLeft,
+    ShiftRight,
+    Concat,
+    Extract,
+    ZeroExtend,
+    SignExtend,
+    Choose,
+    True,
+    False,
+    Equal,
+    AtMost,
+    SignedAtMost,
+    Not,
+    And,
+    Or,
+    Exists,
+    ForAll,
 }
 
-// Sorts.
-pub const NEITHER: u8 = 0;
+/// What sort of thing an entry is. A variable is a term too.
+#[derive(Clone, Copy, Debug, PartialEq, Eq)]
+pub enum Sort {
+    Variable,
+    Term,
+    Formula,
+}
 
-pub const VARIABLE: u8 = 1;
+impl Sort {
+    /// Is it a formula's?
+    pub fn is_formula(self) -> bool
+        ensures { result ≡ is_formula (sort_as self) }
+    {
+        self == Sort::Formula
+    }
+}
 
-pub const TERM: u8 = 2;
+/// What an operand has to be.
+#[derive(Clone, Copy, Debug, PartialEq, Eq)]
+pub enum Need {
+    ATerm,
+    AFormula,
+    AVariable,
+}
 
-pub const FORMULA: u8 = 3;
+/// How the widths of an entry and its operands fit.
+#[derive(Clone, Copy, Debug, PartialEq, Eq)]
+pub enum Fit {
+    /// nothing is asked
+    Any,
+    /// a constant: the value is below 2 to the width
+    Below,
+    /// every operand that is a term has the entry's own width
+    Equal,
+    /// the operands' widths add up to the entry's
+    Sum,
+    /// extract from u down to l: the width is u - l + 1, and u lies inside the operand
+    Span,
+    /// the operand isn't wider than the entry
+    NoneWider,
+    /// the operands' widths are one another's
+    Alike,
+}
 
-// What an operand has to be; NONE where the kind has no such operand.
-pub const NONE: u8 = 0;
+/// A row of the table of kinds.
+#[derive(Clone, Copy, Debug)]
+pub struct Rule {
+    pub sort: Sort,
+    /// how long the body is, in bytes
+    pub body: u8,
+    /// what each operand has to be, in order
+    pub operands: &'static [Need],
+    pub widths: Fit,
+}
 
-pub const A_TERM: u8 = 1;
-
-pub const A_FORMULA: u8 = 2;
-
-pub const A_VARIABLE: u8 = 3;
-
-// How widths fit.
-pub const ANY: u8 = 0;
-
-pub const BELOW: u8 = 1;
-
-pub const EQUAL: u8 = 2;
-
-pub const SUM: u8 = 3;
-
-pub const SPAN: u8 = 4;
-
-pub const NOT_WIDER: u8 = 5;
-
-pub const ALIKE: u8 = 6;
-
-// The number of the one kind whose sort is VARIABLE: where only this is asked, the table need not be read.
-pub const VARIABLE_NUMBER: u8 = 1;
-
-// no kind has this number
-const ABSENT: Kind = Kind {
-    sort: NEITHER,
+// a variable; no other kind has its sort
+const VARIABLE: Rule = Rule {
+    sort: Sort::Variable,
     body: 0,
-    operands: 0,
-    first: NONE,
-    second: NONE,
-    third: NONE,
-    widths: ANY,
-};
-
-// variable
-const NAME: Kind = Kind {
-    sort: VARIABLE,
-    body: 0,
-    operands: 0,
-    first: NONE,
-    second: NONE,
-    third: NONE,
-    widths: ANY,
+    operands: &[],
+    widths: Fit::Any,
 };
 
 // constant
-const CONSTANT: Kind = Kind {
-    sort: TERM,
+const CONSTANT: Rule = Rule {
+    sort: Sort::Term,
     body: 4,
-    operands: 0,
-    first: NONE,
-    second: NONE,
-    third: NONE,
-    widths: BELOW,
+    operands: &[],
+    widths: Fit::Below,
 };
 
 // bitwise not, negation
-const UNARY: Kind = Kind {
-    sort: TERM,
+const UNARY: Rule = Rule {
+    sort: Sort::Term,
     body: 2,
-    operands: 1,
-    first: A_TERM,
-    second: NONE,
-    third: NONE,
-    widths: EQUAL,
+    operands: &[Need::ATerm],
+    widths: Fit::Equal,
 };
 
-// and, or, xor, add, multiply
-const BINARY: Kind = Kind {
-    sort: TERM,
+// bitwise and, or, exclusive or; add, multiply
+const BINARY: Rule = Rule {
+    sort: Sort::Term,
     body: 4,
-    operands: 2,
-    first: A_TERM,
-    second: A_TERM,
-    third: NONE,
-    widths: EQUAL,
+    operands: &[Need::ATerm, Need::ATerm],
+    widths: Fit::Equal,
 };
 
 // shift left, shift right with zeros
-const SHIFT: Kind = Kind {
-    sort: TERM,
+const SHIFT: Rule = Rule {
+    sort: Sort::Term,
     body: 3,
-    operands: 1,
-    first: A_TERM,
-    second: NONE,
-    third: NONE,
-    widths: EQUAL,
+    operands: &[Need::ATerm],
+    widths: Fit::Equal,
 };
 
 // concat
-const CONCAT: Kind = Kind {
-    sort: TERM,
+const CONCAT: Rule = Rule {
+    sort: Sort::Term,
     body: 4,
-    operands: 2,
-    first: A_TERM,
-    second: A_TERM,
-    third: NONE,
-    widths: SUM,
+    operands: &[Need::ATerm, Need::ATerm],
+    widths: Fit::Sum,
 };
 
 // extract
-const EXTRACT: Kind = Kind {
-    sort: TERM,
+const EXTRACT: Rule = Rule {
+    sort: Sort::Term,
     body: 4,
-    operands: 1,
-    first: A_TERM,
-    second: NONE,
-    third: NONE,
-    widths: SPAN,
+    operands: &[Need::ATerm],
+    widths: Fit::Span,
 };
 
 // zero extend, sign extend
-const EXTEND: Kind = Kind {
-    sort: TERM,
+const EXTEND: Rule = Rule {
+    sort: Sort::Term,
     body: 2,
-    operands: 1,
-    first: A_TERM,
-    second: NONE,
-    third: NONE,
-    widths: NOT_WIDER,
+    operands: &[Need::ATerm],
+    widths: Fit::NoneWider,
 };
 
 // if-then-else
-const CHOOSE: Kind = Kind {
-    sort: TERM,
+const CHOOSE: Rule = Rule {
+    sort: Sort::Term,
     body: 6,
-    operands: 3,
-    first: A_FORMULA,
-    second: A_TERM,
-    third: A_TERM,
-    widths: EQUAL,
+    operands: &[Need::AFormula, Need::ATerm, Need::ATerm],
+    widths: Fit::Equal,
 };
 
 // true, false
-const TRUTH: Kind = Kind {
-    sort: FORMULA,
+const TRUTH: Rule = Rule {
+    sort: Sort::Formula,
     body: 0,
-    operands: 0,
-    first: NONE,
-    second: NONE,
-    third: NONE,
-    widths: ANY,
+    operands: &[],
+    widths: Fit::Any,
 };
 
-// equal, unsigned ≤, signed ≤
-const COMPARE: Kind = Kind {
-    sort: FORMULA,
+// equal, unsigned at most, signed at most
+const COMPARE: Rule = Rule {
+    sort: Sort::Formula,
     body: 4,
-    operands: 2,
-    first: A_TERM,
-    second: A_TERM,
-    third: NONE,
-    widths: ALIKE,
+    operands: &[Need::ATerm, Need::ATerm],
+    widths: Fit::Alike,
 };
 
 // not
-const NOT: Kind = Kind {
-    sort: FORMULA,
+const NOT: Rule = Rule {
+    sort: Sort::Formula,
     body: 2,
-    operands: 1,
-    first: A_FORMULA,
-    second: NONE,
-    third: NONE,
-    widths: ANY,
+    operands: &[Need::AFormula],
+    widths: Fit::Any,
 };
 
 // and, or
-const JOIN: Kind = Kind {
-    sort: FORMULA,
+const JOIN: Rule = Rule {
+    sort: Sort::Formula,
     body: 4,
-    operands: 2,
-    first: A_FORMULA,
-    second: A_FORMULA,
-    third: NONE,
-    widths: ANY,
+    operands: &[Need::AFormula, Need::AFormula],
+    widths: Fit::Any,
 };
 
-// exists, forall
-const BIND: Kind = Kind {
-    sort: FORMULA,
+// exists, for all
+const BIND: Rule = Rule {
+    sort: Sort::Formula,
     body: 4,
-    operands: 2,
-    first: A_VARIABLE,
-    second: A_FORMULA,
-    third: NONE,
-    widths: ANY,
+    operands: &[Need::AVariable, Need::AFormula],
+    widths: Fit::Any,
 };
 
-pub const KINDS: [Kind; 50] = [
-    ABSENT, NAME, CONSTANT, UNARY, UNARY, BINARY, BINARY, BINARY, BINARY, BINARY, SHIFT, SHIFT,
-    CONCAT, EXTRACT, EXTEND, EXTEND, CHOOSE, ABSENT, ABSENT, ABSENT, ABSENT, ABSENT, ABSENT,
-    ABSENT, ABSENT, ABSENT, ABSENT, ABSENT, ABSENT, ABSENT, ABSENT, ABSENT, TRUTH, TRUTH, COMPARE,
-    COMPARE, COMPARE, ABSENT, ABSENT, ABSENT, NOT, JOIN, JOIN, ABSENT, ABSENT, ABSENT, ABSENT,
-    ABSENT, BIND, BIND,
+// The rows in the order of the enum's variants. The table is lent, so that reading a row doesn't build it.
+const RULES: &[Rule; 26] = &[
+    VARIABLE, CONSTANT, UNARY, UNARY, BINARY, BINARY, BINARY, BINARY, BINARY, SHIFT, SHIFT, CONCAT,
+    EXTRACT, EXTEND, EXTEND, CHOOSE, TRUTH, TRUTH, COMPARE, COMPARE, COMPARE, NOT, JOIN, JOIN,
+    BIND, BIND,
 ];
 
-// The row of kind number k, or the absent kind's where the table has none.
-pub fn kind_of(k: u8) -> Kind
-    ensures { result ≡ codes_of (rule_of k) }
-{
-    let i = k as usize;
-    if i < 50 {
-        return KINDS[i];
+impl Kind {
+    /// The kind with this number, or `None` where the table of kinds has no such number.
+    #[tactic(auto, unfolding(meaning::specs::Kind::rule_of, meaning::specs::Kind::rules))]
+    pub fn of(number: u8) -> Option<Kind>
+        ensures { Decodes number result }
+    {
+        Some(match number {
+            1 => Kind::Variable,
+            2 => Kind::Constant,
+            3 => Kind::BitNot,
+            4 => Kind::Negate,
+            5 => Kind::BitAnd,
+            6 => Kind::BitOr,
+            7 => Kind::BitXor,
+            8 => Kind::Add,
+            9 => Kind::Multiply,
+            10 => Kind::ShiftLeft,
+            11 => Kind::ShiftRight,
+            12 => Kind::Concat,
+            13 => Kind::Extract,
+            14 => Kind::ZeroExtend,
+            15 => Kind::SignExtend,
+            16 => Kind::Choose,
+            32 => Kind::True,
+            33 => Kind::False,
+            34 => Kind::Equal,
+            35 => Kind::AtMost,
+            36 => Kind::SignedAtMost,
+            40 => Kind::Not,
+            41 => Kind::And,
+            42 => Kind::Or,
+            48 => Kind::Exists,
+            49 => Kind::ForAll,
+            _ => return None,
+        })
     }
-    ABSENT
+
+    /// The kind's row of the table.
+    #[tactic(auto, unfolding(meaning::specs::Kind::rule_of, meaning::specs::Kind::rules))]
+    pub fn rule(self) -> Rule
+        ensures { row_as self result ≡ rule_of (number_of self) }
+    {
+        RULES[self as usize]
+    }
+
+    /// How many levels an entry of this kind and width brings: the width, if it is a variable.
+    #[tactic(auto, unfolding(meaning::specs::Kind::rule_of, meaning::specs::Kind::rules))]
+    pub fn bits(self, width: u32) -> u32
+        ensures { result ≡ bits_of (rule_of (number_of self)).sort width }
+    {
+        match self {
+            Kind::Variable => width,
+            _ => 0,
+        }
+    }
 }

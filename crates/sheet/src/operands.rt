@@ -1,73 +1,65 @@
-// Refusal 4 of one entry, whose body is b and whose row of the kind table is row.
-ghost use Rattle.std.specs.Prelude.{◌≡◌, ◌∷◌, [], ◌<◌, length, get_or};
-ghost use Rattle.meaning.specs.Kind.{Rule, Sort, Operand, a_term};
-ghost use Rattle.meaning.specs.Sheet.{rule_at, entry_at, entries};
-ghost use Rattle.meaning.specs.Check.{suits, operands_fit};
-ghost use Rattle.sheet.specs.Kind.{codes_of, sort_code, need_code, need_at};
-ghost use Rattle.sheet.specs.Laid.{Entered};
+//! Refusal 4 of one entry.
+ghost use Rattle.std.specs.Prelude.{◌≡◌, ◌<◌, length};
+ghost use Rattle.meaning.specs.Sheet.{rule_at};
+ghost use Rattle.meaning.specs.Check.{suits};
+ghost use Rattle.sheet.specs.Kind.{sort_as, need_as};
+ghost use Rattle.sheet.specs.Entry.{need_at, operand_fits_at, operands_fit_at};
 
-use crate::kind::{A_FORMULA, A_VARIABLE, FORMULA, Kind, TERM, VARIABLE};
-use crate::read::{kind, operand};
-
-// What operand k has to be.
-#[tactic(auto, using(crate::proofs::Laws::Kind::need_first, crate::proofs::Laws::Kind::need_second, crate::proofs::Laws::Kind::need_third))]
-pub fn need_of(row: Kind, k: usize) -> u8
-    requires { k < 3 }
-    ensures { (x : Rule) → row ≡ codes_of x → result ≡ need_at k x.operands }
-{
-    if k == 0 {
-        return row.first;
-    }
-    if k == 1 {
-        return row.second;
-    }
-    row.third
-}
+use crate::kind::{Need, Sort};
+use crate::read;
+use crate::sheet::Entry;
 
 // Is an entry of this sort what an operand has to be? A variable is a term too.
-fn suits(need: u8, sort: u8) -> bool
-    ensures { (o : Operand) (x : Sort) → need ≡ need_code o → sort ≡ sort_code x → result ≡ suits o x }
+fn suits(need: Need, sort: Sort) -> bool
+    ensures { result ≡ suits (need_as need) (sort_as sort) }
 {
-    if need == A_FORMULA {
-        return sort == FORMULA;
+    match need {
+        Need::ATerm => !sort.is_formula(),
+        Need::AFormula => sort.is_formula(),
+        Need::AVariable => sort == Sort::Variable,
     }
-    if sort == VARIABLE {
-        return true;
-    }
-    if need == A_VARIABLE {
-        return false;
-    }
-    sort == TERM
 }
 
-// Operand k is below entry i and what it has to be.
-fn operand_fits(s: &[u8], i: usize, b: &[u8], row: Kind, k: usize) -> bool
-    requires entered { Entered s.now b.now i row }
-    requires k_in_bounds { k < length (rule_at s.now i).operands }
-    ensures { result ≡ operands_fit (entries s.now) i (entry_at s.now i) k
-        (get_or (rule_at s.now i).operands k a_term ∷ []) }
-{
-    let j = operand(b, k);
-    if i <= j {
-        return false;
+impl<'a> Entry<'a> {
+    /// How many operands the entry has; a bound variable is one.
+    pub fn operand_count(self) -> usize
+        ensures { result ≡ length (rule_at self.entry.sheet.bytes.now self.entry.index).operands }
+    {
+        self.kind.rule().operands.len()
     }
-    let other = kind(s, j);
-    suits(need_of(row, k), other.sort)
-}
 
-// 4: every operand is below its entry and what it has to be.
-pub fn operands_fit(s: &[u8], i: usize, b: &[u8], row: Kind) -> bool
-    requires { Entered s.now b.now i row }
-    ensures { result ≡ operands_fit (entries s.now) i (entry_at s.now i) 0
-        (rule_at s.now i).operands }
-{
-    let many = row.operands as usize;
-    let mut k = 0;
-    while k < many {
-        if !operand_fits(s, i, b, row, k) {
+    /// What operand k has to be.
+    pub fn need(self, k: usize) -> Need
+        requires { k < length (rule_at self.sheet.bytes.now self.index).operands }
+        ensures { need_as result ≡ need_at self.entry.sheet.bytes.now self.entry.index k }
+    {
+        self.kind.rule().operands[k]
+    }
+
+    // Operand k is below the entry and what it has to be.
+    fn operand_fits(self, k: usize) -> bool
+        requires { k < length (rule_at self.sheet.bytes.now self.index).operands }
+        ensures { result ≡ operand_fits_at self.entry.sheet.bytes.now self.entry.index k }
+    {
+        let j = read::operand(self.body, k);
+        let below = j < self.index;
+        if !below {
             return false;
         }
-        k += 1;
+        suits(self.need(k), self.sheet.sort(j))
     }
-    true
+
+    /// 4: every operand is below its entry and what it has to be.
+    #[tactic(auto, using(crate::proofs::Laws::Operands::fit_begin))]
+    pub fn operands_fit(self) -> bool
+        ensures { result ≡ operands_fit_at self.entry.sheet.bytes.now self.entry.index }
+    {
+        // a `for`: a chain (`all` over the places) proves only with a lemma on its runs, and is no plainer
+        for k in 0..self.operand_count() {
+            if !self.operand_fits(k) {
+                return false;
+            }
+        }
+        true
+    }
 }

@@ -1,36 +1,22 @@
-// What stands where in a sheet. Each function says which bytes have to be there.
+//! What stands where in a sheet. Each function says which bytes have to be there.
+//! They take plain bytes, as docs/PROMISES.md names them: the check calls some before there is a `Sheet`.
 ghost use Rattle.std.specs.Prelude.{◌≡◌, ◌+◌, ◌*◌, ◌≤◌, ◌<◌, length, get_or, take, drop};
 ghost use Rattle.meaning.specs.Number.{little};
 ghost use Rattle.meaning.specs.Sheet.{pair_at, count, record_at, rule_at, width_at, place, body};
-ghost use Rattle.sheet.specs.Kind.{codes_of};
+ghost use Rattle.sheet.specs.Kind.{Decodes};
 
 use crate::kind::Kind;
-
-fn wide(x: u8) -> u32
-    ensures { (result ≡ x) × (result < 256) }
-{
-    x as u32
-}
-
-// The one-byte number at a place.
-fn byte_at(s: &[u8], at: usize) -> u32
-    requires { at < length s.now }
-    ensures { (result ≡ get_or s.now at 0) × (result < 256) }
-{
-    wide(s[at])
-}
 
 // The two-byte number at a place.
 fn pair_at(s: &[u8], at: usize) -> usize
     requires { at + 2 ≤ length s.now }
-    ensures { (result ≡ pair_at at s.now) × (result < 65536) }
+    ensures value { result ≡ pair_at at s.now }
+    ensures small { result < 65536 }
 {
-    let low = byte_at(s, at);
-    let high = byte_at(s, at + 1);
-    (low + 256 * high) as usize
+    usize::from(u16::from_le_bytes([s[at], s[at + 1]]))
 }
 
-// N, the number of entries.
+/// N, the number of entries.
 pub fn count(s: &[u8]) -> usize
     requires { 2 ≤ length s.now }
     ensures { result ≡ count s.now }
@@ -38,7 +24,7 @@ pub fn count(s: &[u8]) -> usize
     pair_at(s, 0)
 }
 
-// The kind number of entry i, as written.
+/// The kind number of entry i, as written.
 pub fn number(s: &[u8], i: usize) -> u8
     requires { record_at (i + 1) ≤ length s.now }
     ensures { result ≡ get_or s.now (record_at i) 0 }
@@ -46,90 +32,103 @@ pub fn number(s: &[u8], i: usize) -> u8
     s[2 + 4 * i]
 }
 
-// The kind table's row for entry i.
-pub fn kind(s: &[u8], i: usize) -> Kind
+/// The kind of entry i, or `None` where the table of kinds has no such number.
+pub fn kind(s: &[u8], i: usize) -> Option<Kind>
     requires { record_at (i + 1) ≤ length s.now }
-    ensures { result ≡ codes_of (rule_at s.now i) }
+    ensures { Decodes (get_or s.now (record_at i) 0) result }
 {
-    crate::kind::kind_of(number(s, i))
+    Kind::of(number(s, i))
 }
 
-// The width of entry i.
+/// The width of entry i.
 pub fn width(s: &[u8], i: usize) -> u32
     requires { record_at (i + 1) ≤ length s.now }
-    ensures { (result ≡ width_at s.now i) × (result < 256) }
+    ensures value { result ≡ width_at s.now i }
+    ensures small { result < 256 }
 {
-    byte_at(s, 2 + 4 * i + 1)
+    u32::from(s[2 + 4 * i + 1])
 }
 
-// Where entry i's body begins.
+/// Where entry i's body begins.
 pub fn place(s: &[u8], i: usize) -> usize
     requires { record_at (i + 1) ≤ length s.now }
-    ensures { (result ≡ place s.now i) × (result < 65536) }
+    ensures value { result ≡ place s.now i }
+    ensures small { result < 65536 }
 {
     pair_at(s, 2 + 4 * i + 2)
 }
 
-// So many bytes from entry i's place on, as a part of the sheet itself.
+/// So many bytes from entry i's place on, as a part of the sheet itself.
 pub fn part<'a>(s: &'a [u8], i: usize, many: usize) -> &'a [u8]
     requires i_in_bounds { record_at (i + 1) ≤ length s.now }
     requires many_in_bounds { place s.now i + many ≤ length s.now }
     ensures { result.now ≡ take many (drop (place s.now i) s.now) }
 {
     let at = place(s, i);
-    let end = at + many;
-    &s[at..end]
+    &s[at..at + many]
 }
 
-// Entry i's body, as a part of the sheet itself.
-#[tactic(auto, using(crate::proofs::Laws::Read::body_end, crate::proofs::Laws::Read::body_is))]
+/// How long entry i's body is by its kind, in bytes; 0 where the table has no such kind.
+pub fn body_length(s: &[u8], i: usize) -> usize
+    requires { record_at (i + 1) ≤ length s.now }
+    ensures value { result ≡ (rule_at s.now i).body }
+    ensures small { result < 256 }
+{
+    match kind(s, i) {
+        Some(kind) => usize::from(kind.rule().body),
+        None => 0,
+    }
+}
+
+/// Entry i's body, as a part of the sheet itself.
 pub fn body<'a>(s: &'a [u8], i: usize) -> &'a [u8]
     requires i_in_bounds { record_at (i + 1) ≤ length s.now }
     requires body_in_bounds { place s.now i + (rule_at s.now i).body ≤ length s.now }
     ensures { result.now ≡ body s.now i }
 {
-    let row = kind(s, i);
-    part(s, i, row.body as usize)
+    part(s, i, body_length(s, i))
 }
 
-// Operand k, an entry number.
+/// Operand k of a body, an entry number.
 pub fn operand(body: &[u8], k: usize) -> usize
     requires { 2 * k + 2 ≤ length body.now }
-    ensures { (result ≡ pair_at (2 * k) body.now) × (result < 65536) }
+    ensures value { result ≡ pair_at (2 * k) body.now }
+    ensures small { result < 65536 }
 {
     pair_at(body, 2 * k)
 }
 
-// A constant's value.
+/// A constant's value.
 pub fn constant(body: &[u8]) -> u32
     requires { length body.now ≡ 4 }
     ensures { result ≡ little body.now }
 {
-    let low = pair_at(body, 0);
-    let high = pair_at(body, 2);
-    (low + 65536 * high) as u32
+    u32::from_le_bytes([body[0], body[1], body[2], body[3]])
 }
 
-// A shift's amount, as written.
+/// A shift's amount, as written. An extract has u, its upper bit, at the same place.
 pub fn amount(body: &[u8]) -> u32
     requires { 3 ≤ length body.now }
-    ensures { (result ≡ get_or body.now 2 0) × (result < 256) }
+    ensures value { result ≡ get_or body.now 2 0 }
+    ensures small { result < 256 }
 {
-    byte_at(body, 2)
+    u32::from(body[2])
 }
 
-// Extract's u.
+/// An extract's u.
 pub fn upper(body: &[u8]) -> u32
     requires { 3 ≤ length body.now }
-    ensures { (result ≡ get_or body.now 2 0) × (result < 256) }
+    ensures value { result ≡ get_or body.now 2 0 }
+    ensures small { result < 256 }
 {
-    byte_at(body, 2)
+    amount(body)
 }
 
-// Extract's l.
+/// An extract's l.
 pub fn lower(body: &[u8]) -> u32
     requires { 4 ≤ length body.now }
-    ensures { (result ≡ get_or body.now 3 0) × (result < 256) }
+    ensures value { result ≡ get_or body.now 3 0 }
+    ensures small { result < 256 }
 {
-    byte_at(body, 3)
+    u32::from(body[3])
 }

@@ -1,53 +1,18 @@
-// Refusals 5 and 6 of one entry whose operands fit; its body is b, and its row of the kind table is row.
-ghost use Rattle.std.specs.Prelude.{◌≡◌, ◌&&◌, ◌∷◌, [], ◌+◌, ◌-◌, ◌^◌, ◌≤◌, ◌<◌, eqb, ltb, leb, length, get_or};
-ghost use Rattle.meaning.specs.Kind.{a_term};
-ghost use Rattle.meaning.specs.Sheet.{rule_at, entry_at, entries};
-ghost use Rattle.meaning.specs.Check.{width_of, own_width, widths_fit, in_range};
-ghost use Rattle.sheet.specs.Laid.{Suited};
+//! Refusals 5 and 6 of one entry whose operands fit.
+ghost use Rattle.std.specs.Prelude.{◌≡◌, ◌&&◌, ◌+◌, ◌-◌, ◌^◌, ◌≤◌, ◌<◌, eqb, ltb, leb, length, get_or, true};
+ghost use Rattle.meaning.specs.Sheet.{rule_at};
+ghost use Rattle.sheet.specs.Kind.{fit_as};
+ghost use Rattle.sheet.specs.Entry.{operands_fit_at, operand_width_at, own_width_at, own_widths_at, widths_fit_at, in_range_at};
 
-use crate::kind::{A_TERM, ANY, BELOW, EQUAL, Kind, NOT_WIDER, SPAN, SUM};
-use crate::operands::need_of;
-use crate::read::{constant, lower, operand, upper, width};
+use crate::kind::{Fit, Need};
+use crate::read::{constant, lower, operand, upper};
+use crate::sheet::Entry;
 
-// The width of operand k.
-fn width_of(s: &[u8], i: usize, b: &[u8], row: Kind, k: usize) -> u32
-    requires suited { Suited s.now b.now i row }
-    requires k_in_bounds { k < length (rule_at s.now i).operands }
-    ensures { (result ≡ width_of (entries s.now) (entry_at s.now i) k) × (result < 256) }
-{
-    let j = operand(b, k);
-    width(s, j)
-}
-
-// Operand k, if it is a term, has the entry's own width.
-fn own_width(s: &[u8], i: usize, b: &[u8], row: Kind, k: usize) -> bool
-    requires suited { Suited s.now b.now i row }
-    requires k_in_bounds { k < length (rule_at s.now i).operands }
-    ensures { result ≡ own_width (entries s.now) (entry_at s.now i) k
-        (get_or (rule_at s.now i).operands k a_term ∷ []) }
-{
-    if need_of(row, k) != A_TERM {
-        return true;
-    }
-    let w = width_of(s, i, b, row, k);
-    w == width(s, i)
-}
-
-// Every operand that is a term has the entry's own width.
-fn own_widths(s: &[u8], i: usize, b: &[u8], row: Kind) -> bool
-    requires { Suited s.now b.now i row }
-    ensures { result ≡ own_width (entries s.now) (entry_at s.now i) 0
-        (rule_at s.now i).operands }
-{
-    let many = row.operands as usize;
-    let mut k = 0;
-    while k < many {
-        if !own_width(s, i, b, row, k) {
-            return false;
-        }
-        k += 1;
-    }
-    true
+/// An entry whose operands are below it and what they have to be.
+#[derive(Clone, Copy)]
+pub struct Suited<'a> {
+    pub own: Entry<'a>,
+    pub ghost fit: { operands_fit_at own.sheet.bytes.now own.index ≡ true },
 }
 
 // Extract's width is u − l + 1, and u isn't below l.
@@ -58,41 +23,7 @@ fn spans(b: &[u8], w: u32) -> bool
 {
     let u = upper(b);
     let l = lower(b);
-    if u < l {
-        return false;
-    }
-    w == u - l + 1
-}
-
-// 5: the widths fit.
-pub fn widths_fit(s: &[u8], i: usize, b: &[u8], row: Kind) -> bool
-    requires { Suited s.now b.now i row }
-    ensures { result ≡ widths_fit (rule_at s.now i).widths (entries s.now)
-        (entry_at s.now i) }
-{
-    let how = row.widths;
-    if how == ANY {
-        return true;
-    }
-    if how == BELOW {
-        return true;
-    }
-    if how == EQUAL {
-        return own_widths(s, i, b, row);
-    }
-    let w = width(s, i);
-    if how == SPAN {
-        return spans(b, w);
-    }
-    let first = width_of(s, i, b, row, 0);
-    if how == NOT_WIDER {
-        return first <= w;
-    }
-    let second = width_of(s, i, b, row, 1);
-    if how == SUM {
-        return w == first + second;
-    }
-    first == second
+    l <= u && w == u - l + 1
 }
 
 // Is the value below 2^w?
@@ -101,23 +32,77 @@ fn below_power(value: u32, w: u32) -> bool
     ensures { result ≡ ltb value (2 ^ w) }
 {
     let power = 1u64 << w;
-    (value as u64) < power
+    u64::from(value) < power
 }
 
-// 6: the constant isn't too large, and u lies inside the operand.
-pub fn in_range(s: &[u8], i: usize, b: &[u8], row: Kind) -> bool
-    requires { Suited s.now b.now i row }
-    ensures { result ≡ in_range (rule_at s.now i).widths (entries s.now)
-        (entry_at s.now i) }
-{
-    let how = row.widths;
-    let w = width(s, i);
-    if how == BELOW {
-        return below_power(constant(b), w);
+impl<'a> Entry<'a> {
+    /// How the widths of the entry and its operands fit.
+    pub fn fit(self) -> Fit
+        ensures { fit_as result ≡ (rule_at self.entry.sheet.bytes.now self.entry.index).widths }
+    {
+        self.kind.rule().widths
     }
-    if how == SPAN {
-        let first = width_of(s, i, b, row, 0);
-        return upper(b) < first;
+}
+
+impl<'a> Suited<'a> {
+    // The width of operand k.
+    fn operand_width(self, k: usize) -> u32
+        requires { k < length (rule_at self.own.sheet.bytes.now self.own.index).operands }
+        ensures value { result ≡ operand_width_at self.entry.own.sheet.bytes.now self.entry.own.index k }
+        ensures few { result ≤ 32 }
+    {
+        self.own.sheet.width(operand(self.own.body, k))
     }
-    true
+
+    // Operand k, if it is a term, has the entry's own width.
+    fn own_width(self, k: usize) -> bool
+        requires { k < length (rule_at self.own.sheet.bytes.now self.own.index).operands }
+        ensures { result ≡ own_width_at self.entry.own.sheet.bytes.now self.entry.own.index k }
+    {
+        self.own.need(k) != Need::ATerm || self.operand_width(k) == self.own.width
+    }
+
+    // Every operand that is a term has the entry's own width.
+    #[tactic(auto, using(crate::proofs::Laws::Widths::own_begin))]
+    fn own_widths(self) -> bool
+        ensures { result ≡ own_widths_at self.entry.own.sheet.bytes.now self.entry.own.index }
+    {
+        // a `for`: a chain (`all` over the places) proves only with a lemma on its runs, and is no plainer
+        for k in 0..self.own.operand_count() {
+            if !self.own_width(k) {
+                return false;
+            }
+        }
+        true
+    }
+
+    /// 5: the widths fit.
+    pub fn widths_fit(self) -> bool
+        ensures { result ≡ widths_fit_at self.entry.own.sheet.bytes.now self.entry.own.index }
+    {
+        let w = self.own.width;
+        match self.own.fit() {
+            Fit::Any | Fit::Below => true,
+            Fit::Equal => self.own_widths(),
+            Fit::Sum => w == self.operand_width(0) + self.operand_width(1),
+            Fit::Span => spans(self.own.body, w),
+            Fit::NoneWider => self.operand_width(0) <= w,
+            Fit::Alike => self.operand_width(0) == self.operand_width(1),
+        }
+    }
+
+    /// 6: the constant isn't too large, and an extract's u lies inside the operand.
+    pub fn in_range(self) -> bool
+        ensures { result ≡ in_range_at self.entry.own.sheet.bytes.now self.entry.own.index }
+    {
+        let w = self.own.width;
+        match self.own.fit() {
+            Fit::Below => below_power(constant(self.own.body), w),
+            Fit::Span => {
+                let first = self.operand_width(0);
+                upper(self.own.body) < first
+            }
+            _ => true,
+        }
+    }
 }

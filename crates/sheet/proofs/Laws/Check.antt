@@ -1,5 +1,6 @@
 -- The check as a whole: the paths of the code through the definitions, and what a sheet that passes gives.
 use Prim.Native.Nat.{ℕ, zero, suc, ◌+◌, ◌-◌, ◌≤◌, ◌<◌}
+use Rattle.std.specs.Prelude.{Result, Err}
 use mathlib.Core.Path.{◌≡◌, refl, sym, ap, ◌∙◌}
 use mathlib.Core.Bool.{Bool, true, false, not, ◌&&◌, ◌||◌, and-eq-true_iff, true≢false, false≢true}
 use mathlib.Core.List.{List}
@@ -8,48 +9,30 @@ use lib.ListN.{length}
 use native.Mathlib.Nat.{add-zero, zero-add}
 use native.Mathlib.Numerals.{add-one}
 use native.Mathlib.Omega.{arith}
-use borrow.Author.Tests.{ltb-false, leb-true, eqb-true, lt-ltb, le-ltb, eq-eqb, ne_eqb, not-false}
+use borrow.Author.Tests.{ltb-false, leb-true, eqb-true, eq-eqb, ne_eqb, not-false}
 use Rattle.meaning.specs.Kind.{Sort}
-use Rattle.meaning.specs.Sheet.{Entry, count, record_at, rule_at, width_at, place, entry_at, entries}
-use Rattle.meaning.specs.Level.{levels}
-use Rattle.meaning.specs.Check.{short, allowed, kinds_fit, places_fit, operands_fit, widths_fit, in_range}
-use Rattle.meaning.specs.Check.{is_formula, last_entry, entry_refusal, entries_refusal, meaning_refusal, check}
+use Rattle.meaning.specs.Sheet.{count, record_at, rule_at, width_at, place, entry_at, entries}
+use Rattle.meaning.specs.Check.{refuse, first, short, allowed, kinds_fit, places_fit}
+use Rattle.meaning.specs.Check.{last_entry, entry_refusal, entries_refusal, meaning_refusal, check}
 use Rattle.meaning.proofs.Laws.Checked.{entries_length}
-use Rattle.sheet.specs.declared.kind.Kind.{Kind}
-use Rattle.sheet.specs.Kind.{codes_of, sort_code}
-use Rattle.sheet.specs.Laid.{Laid}
-use Rattle.sheet.proofs.Laws.Kind.{codes_sort}
-use Rattle.sheet.proofs.Laws.Sheet.{entry_at_lem, rest, rest_begin, rest_more, rest_end}
-
--- ---- 4, 5, 6 of one entry
-
-module _ (es : List Entry) (i : ℕ) (e : Entry) (fit : Bool)
-    (is_fit : fit ≡ operands_fit es i e 0 e.rule.operands) where
-  pub entry_four : fit ≡ false → 4 ≡ entry_refusal es i e
-  unfolding entry_refusal
-  entry_four failed = rw (← is_fit, failed) refl
-
-  pub entry_five : (wide : Bool) → fit ≡ true → wide ≡ widths_fit e.rule.widths es e → wide ≡ false →
-      5 ≡ entry_refusal es i e
-  unfolding entry_refusal
-  entry_five wide passed is_is_wide failed = rw (← is_fit, passed, ← is_is_wide, failed) refl
-
--- neither 4 nor 5
-pub record Wide (es : List Entry) (i : ℕ) (e : Entry) : Type 0 where
-  pub operands : operands_fit es i e 0 e.rule.operands ≡ true
-  pub widths : widths_fit e.rule.widths es e ≡ true
-
-module _ {es : List Entry} {i : ℕ} {e : Entry} (past : Wide es i e) (range : Bool)
-    (is_range : range ≡ in_range e.rule.widths es e) where
-  pub entry_six : range ≡ false → 6 ≡ entry_refusal es i e
-  unfolding entry_refusal
-  entry_six failed = rw (past.operands, past.widths, ← is_range, failed) refl
-
-  pub entry_none : range ≡ true → 0 ≡ entry_refusal es i e
-  unfolding entry_refusal
-  entry_none passed = rw (past.operands, past.widths, ← is_range, passed) refl
+use Rattle.sheet.specs.declared.check.Refusal.{Refusal}
+use Rattle.sheet.specs.declared.check.Refusal.TheVariants.{Short, Kinds, Places, Operands, Widths, Range, Levels, Term}
+use Rattle.sheet.specs.Answer.{number_of, outcome}
+use Rattle.sheet.specs.Laid.{Laid, Known, contents_refusal}
+use Rattle.sheet.proofs.Laws.Sheet.{entry_at_lem, rest, rest_begin, rest_more}
 
 -- ---- 4, 5, 6 entry by entry
+
+-- a refusal isn't 0
+some_number : (refusal : Refusal) → number_of refusal ≡ 0 → ⊥
+some_number Short is = omega arith
+some_number Kinds is = omega arith
+some_number Places is = omega arith
+some_number Operands is = omega arith
+some_number Widths is = omega arith
+some_number Range is = omega arith
+some_number Levels is = omega arith
+some_number Term is = omega arith
 
 -- what is left from entry i on decides the whole
 pub record Refused (s : List ℕ) (n i : ℕ) : Type 0 where
@@ -64,76 +47,25 @@ module _ {s : List ℕ} {n i : ℕ} (left : Refused s n i) where
     refused_more none =
         record { whole = left.whole ∙ rw (rest_more s n i more, ← is, eq-eqb answer 0 none, add-one i) refl }
 
-    pub refused_stop : (answer ≡ 0 → ⊥) → answer ≡ entries_refusal (entries s) 0 (entries s)
+    refused_stop : (answer ≡ 0 → ⊥) → answer ≡ entries_refusal (entries s) 0 (entries s)
     refused_stop some = sym (left.whole ∙ rw (rest_more s n i more, ← is, ne_eqb answer 0 some) refl)
 
-  pub refused_end : n ≤ i → 0 ≡ entries_refusal (entries s) 0 (entries s)
-  refused_end done = sym (left.whole ∙ rw (rest_end s n i done) refl)
+  -- what entry i refuses, as the code has it
+  pub refused_by : i < n → {r : Result (Unit {0}) Refusal} {refusal : Refusal} → r ≡ Err refusal → {b : List ℕ} {j : ℕ} →
+      outcome r ≡ entry_refusal (entries b) j (entry_at b j) → b ≡ s → j ≡ i →
+      number_of refusal ≡ entries_refusal (entries s) 0 (entries s)
+  refused_by more {refusal = refusal} is {b} {j} own same_bytes same_index =
+      refused_stop (number_of refusal)
+      (rw (is, same_bytes, same_index) at own)
+      more (some_number refusal)
 
--- ---- 7, 8
+-- ---- 8
 
-formula_yes : (x : Sort) → sort_code x ≡ 3 → is_formula x ≡ true
-formula_yes Sort.variable three = absurd (omega arith)
-formula_yes Sort.term three = absurd (omega arith)
-formula_yes Sort.formula three = refl
-formula_yes Sort.neither three = absurd (omega arith)
-
-formula_not : (x : Sort) → (sort_code x ≡ 3 → ⊥) → is_formula x ≡ false
-formula_not Sort.variable other = refl
-formula_not Sort.term other = refl
-formula_not Sort.formula other = absurd (other refl)
-formula_not Sort.neither other = refl
-
-module _ (s : List ℕ) (answer : ℕ) (is_answer : answer ≡ entries_refusal (entries s) 0 (entries s)) where
-  pub meaning_entries : (answer ≡ 0 → ⊥) → answer ≡ meaning_refusal (entries s)
-  unfolding meaning_refusal
-  meaning_entries some = rw (← is_answer, ne_eqb answer 0 some) refl
-
-  pub meaning_levels : (bits : ℕ) → answer ≡ 0 → bits ≡ levels (entries s) → 128 < bits → 7 ≡ meaning_refusal (entries s)
-  unfolding meaning_refusal
-  meaning_levels bits none is_bits many = rw (← is_answer, eq-eqb answer 0 none, ← is_bits, lt-ltb 128 bits many) refl
-
--- 4 to 7 are not there, and this is the last entry's row
-pub record Ended (s : List ℕ) (last : Kind) : Type 0 where
-  pub entries_none : entries_refusal (entries s) 0 (entries s) ≡ 0
-  pub few : levels (entries s) ≤ 128
-  pub sort : last.sort ≡ sort_code (last_entry (entries s)).rule.sort
-
-pub last_sort : {s : List ℕ} → Laid s → (n : ℕ) (last : Kind) → n ≡ count s → last ≡ codes_of (rule_at s (n - 1)) →
-    last.sort ≡ sort_code (last_entry (entries s)).rule.sort
-last_sort {s} laid n last is_n is_last =
+pub last_is : (s : List ℕ) {n : ℕ} {last : Sort} → Laid s → n ≡ count s → last ≡ (rule_at s (n - 1)).sort →
+    last ≡ (last_entry (entries s)).rule.sort
+last_is s {n} laid is_n is_last =
     let at : length (entries s) - 1 ≡ n - 1 = omega (arith, entries_length s) in
-    rw (at, entry_at_lem s (n - 1) (omega (arith, laid.some))) (codes_sort last (rule_at s (n - 1)) is_last)
-
--- the same, from what the calls on the way there give
-pub ended_by : {s : List ℕ} {answer bits n : ℕ} {last : Kind} → Laid s →
-    answer ≡ entries_refusal (entries s) 0 (entries s) → answer ≡ 0 → bits ≡ levels (entries s) → bits ≤ 128 →
-    n ≡ count s → last ≡ codes_of (rule_at s (n - 1)) → Ended s last
-ended_by {n = n} {last = last} laid is_answer none is_bits few is_n is_last =
-    record {
-      entries_none = sym is_answer ∙ none;
-      few = rw is_bits at few;
-      sort = last_sort laid n last is_n is_last;
-    }
-
-module _ {s : List ℕ} {last : Kind} (ended : Ended s last) where
-  pub meaning_term : (last.sort ≡ 3 → ⊥) → 8 ≡ meaning_refusal (entries s)
-  unfolding meaning_refusal
-  meaning_term other =
-      rw (
-        ended.entries_none,
-        le-ltb 128 (levels (entries s)) ended.few,
-        formula_not (last_entry (entries s)).rule.sort (λ q. other (ended.sort ∙ q)),
-      ) refl
-
-  pub meaning_none : last.sort ≡ 3 → 0 ≡ meaning_refusal (entries s)
-  unfolding meaning_refusal
-  meaning_none three =
-      rw (
-        ended.entries_none,
-        le-ltb 128 (levels (entries s)) ended.few,
-        formula_yes (last_entry (entries s)).rule.sort (sym ended.sort ∙ three),
-      ) refl
+    rw (at, entry_at_lem s (n - 1) (omega (arith, laid.some))) is_last
 
 -- ---- what the passes of the check give
 
@@ -176,13 +108,6 @@ from_next P i n (suc m) inside here later =
     let next : i + suc m ≡ suc i + m = omega arith in
     rw next (later m (omega arith))
 
-kinds_narrow : (s : List ℕ) (i n k : ℕ) → kinds_fit s i n ≡ true → k < n → width_at s (i + k) ≤ 32
-kinds_narrow s i zero k fit inside = absurd (omega arith)
-kinds_narrow s i (suc n) k fit inside =
-    let both = (and-eq-true_iff (allowed (rule_at s i).sort (width_at s i)) (kinds_fit s (suc i) n)).0 fit in
-    from_next (λ (j : ℕ). width_at s j ≤ 32) i n k inside (width_le (rule_at s i).sort (width_at s i) both.0)
-    (λ m. kinds_narrow s (suc i) n m both.1)
-
 -- bodies from `at` on end with the sheet
 places_at : (s : List ℕ) (i n at : ℕ) → places_fit s i n at ≡ true → at ≤ length s
 places_at s i zero at fit = omega (arith, eqb-true at (length s) fit)
@@ -201,6 +126,18 @@ places_inside s i (suc n) at k fit inside =
     from_next (λ (j : ℕ). place s j + (rule_at s j).body ≤ length s) i n k inside here
     (λ m. places_inside s (suc i) n end m both.1)
 
+-- kinds_fit of each record
+kinds_known : (s : List ℕ) (i n k : ℕ) → kinds_fit s i n ≡ true → k < n →
+    allowed (rule_at s (i + k)).sort (width_at s (i + k)) ≡ true
+kinds_known s i zero k fit inside = absurd (omega arith)
+kinds_known s i (suc n) k fit inside =
+    let both = (and-eq-true_iff (allowed (rule_at s i).sort (width_at s i)) (kinds_fit s (suc i) n)).0 fit in
+    from_next (λ (j : ℕ). allowed (rule_at s j).sort (width_at s j) ≡ true) i n k inside both.0
+    (λ m. kinds_known s (suc i) n m both.1)
+
+pub known : (s : List ℕ) → kinds_fit s 0 (count s) ≡ true → Known s
+known s kinds = record { fits = λ i inside. rw (zero-add i) at (kinds_known s 0 (count s) i kinds inside) }
+
 pub laid : (s : List ℕ) → Sized s → kinds_fit s 0 (count s) ≡ true →
     places_fit s 0 (count s) (record_at (count s)) ≡ true → Laid s
 laid s size kinds places =
@@ -208,64 +145,71 @@ laid s size kinds places =
       some = size.some;
       few = size.few;
       records = size.records;
-      narrow = λ i inside. rw (zero-add i) at (kinds_narrow s 0 (count s) i kinds inside);
+      narrow = λ i inside. width_le (rule_at s i).sort (width_at s i) ((known s kinds).fits i inside);
       bodies = λ i inside. rw (zero-add i) at (places_inside s 0 (count s) (record_at (count s)) i places inside);
     }
 
--- ---- check
+-- ---- 1, 2, 3
 
-module _ (s : List ℕ) (few_bytes : Bool) (is_short : few_bytes ≡ short s) where
-  pub check_short : few_bytes ≡ true → 1 ≡ check s
-  unfolding check
-  check_short is = rw (← is_short, is) refl
+module _ (s : List ℕ) (few : Bool) (is_few : few ≡ short s) (long : few ≡ false) where
+  pub contents_sized : Sized s
+  contents_sized = sized s (sym is_few ∙ long)
 
-  pub check_sized : few_bytes ≡ false → Sized s
-  check_sized long = sized s (sym is_short ∙ long)
+  module _ (n : ℕ) (is_n : n ≡ count s) (kinds : Bool) (is_kinds : kinds ≡ kinds_fit s 0 n) (fit : kinds ≡ true) where
+    pub contents_known : Known s
+    contents_known = known s (rw (← is_n) (sym is_kinds ∙ fit))
 
-  pub check_kinds : (n : ℕ) (kinds : Bool) → few_bytes ≡ false → n ≡ count s → kinds ≡ kinds_fit s 0 n → kinds ≡ false →
-      2 ≡ check s
-  unfolding check
-  check_kinds n kinds long is_n is_kinds failed = rw (← is_short, long, ← is_n, ← is_kinds, failed) refl
+    pub contents_laid : (places : Bool) → places ≡ places_fit s 0 n (record_at n) → places ≡ true → Laid s
+    contents_laid places is_places passed =
+        laid s contents_sized (rw (← is_n) (sym is_kinds ∙ fit)) (rw (← is_n) (sym is_places ∙ passed))
 
--- neither 1 nor 2
-pub record Known (s : List ℕ) : Type 0 where
+-- ---- the whole
+
+pub check_first : (s : List ℕ) → check s ≡ first (contents_refusal s) (meaning_refusal (entries s))
+unfolding check contents_refusal
+check_first s =
+    go (short s) (kinds_fit s 0 (count s)) (places_fit s 0 (count s) (record_at (count s))) (meaning_refusal (entries s))
+  where
+    go : (a b c : Bool) (m : ℕ) → refuse 1 a (refuse 2 (not b) (refuse 3 (not c) m))
+        ≡ first (refuse 1 a (refuse 2 (not b) (refuse 3 (not c) 0))) m
+    go true true true m = refl
+    go true true false m = refl
+    go true false true m = refl
+    go true false false m = refl
+    go false true true m = refl
+    go false true false m = refl
+    go false false true m = refl
+    go false false false m = refl
+
+-- ---- a sheet that passes
+
+refuse_none : (n : ℕ) (cause : Bool) (later : ℕ) → refuse (suc n) cause later ≡ 0 → (cause ≡ false) × (later ≡ 0)
+refuse_none n true later none = absurd (omega arith)
+refuse_none n false later none = (refl, none)
+
+-- what the first three refusals leave
+pub record Passed (s : List ℕ) : Type 0 where
   pub long : short s ≡ false
   pub kinds : kinds_fit s 0 (count s) ≡ true
+  pub places : places_fit s 0 (count s) (record_at (count s)) ≡ true
 
-pub known : (s : List ℕ) (n : ℕ) {few_bytes kinds : Bool} → few_bytes ≡ short s → few_bytes ≡ false → n ≡ count s →
-    kinds ≡ kinds_fit s 0 n → kinds ≡ true → Known s
-known s n is_short long is_n is_kinds passed =
-    record { long = sym is_short ∙ long; kinds = rw (← is_n) (sym is_kinds ∙ passed) }
+pub checked_contents : (s : List ℕ) → check s ≡ 0 → Passed s
+unfolding check
+checked_contents s passed =
+    let one = refuse_none 0 (short s) _ passed in
+    let two = refuse_none 1 (not (kinds_fit s 0 (count s))) _ one.1 in
+    let three = refuse_none 2 (not (places_fit s 0 (count s) (record_at (count s)))) _ two.1 in
+    record {
+      long = one.0;
+      kinds = not-false (kinds_fit s 0 (count s)) two.0;
+      places = not-false (places_fit s 0 (count s) (record_at (count s))) three.0;
+    }
 
-module _ {s : List ℕ} (past : Known s) (n : ℕ) (places : Bool) (is_n : n ≡ count s)
-    (is_places : places ≡ places_fit s 0 n (record_at n)) where
-  fit : places_fit s 0 (count s) (record_at (count s)) ≡ places
-  fit = rw (← is_n) (sym is_places)
+module _ (s : List ℕ) (passed : check s ≡ 0) where
+  pub checked_laid : Laid s
+  checked_laid =
+      let past = checked_contents s passed in
+      laid s (sized s past.long) past.kinds past.places
 
-  pub check_places : places ≡ false → 3 ≡ check s
-  unfolding check
-  check_places failed = rw (past.long, past.kinds, fit, failed) refl
-
-  pub check_laid : places ≡ true → Laid s
-  check_laid passed = laid s (sized s past.long) past.kinds (fit ∙ passed)
-
-  pub check_meaning : (answer : ℕ) → places ≡ true → answer ≡ meaning_refusal (entries s) → answer ≡ check s
-  unfolding check
-  check_meaning answer passed is = rw (past.long, past.kinds, fit, passed) is
-
--- a sheet that passes is laid out
-pub checked_laid : (s : List ℕ) → check s ≡ 0 → Laid s
-checked_laid s passed = go (short s) refl
-  where
-    places : (t : Bool) → places_fit s 0 (count s) (record_at (count s)) ≡ t → Known s → Laid s
-    places true fits past = check_laid past (count s) _ refl refl fits
-    places false fits past = absurd (omega (arith, check_places past (count s) _ refl refl fits))
-
-    kinds : (t : Bool) → kinds_fit s 0 (count s) ≡ t → short s ≡ false → Laid s
-    kinds true fits long =
-        places (places_fit s 0 (count s) (record_at (count s))) refl (record { long = long; kinds = fits })
-    kinds false fits long = absurd (omega (arith, check_kinds s (short s) refl (count s) _ long refl refl fits))
-
-    go : (t : Bool) → short s ≡ t → Laid s
-    go true few = absurd (omega (arith, check_short s (short s) refl few))
-    go false long = kinds (kinds_fit s 0 (count s)) refl long
+  pub checked_known : Known s
+  checked_known = known s (checked_contents s passed).kinds

@@ -1,22 +1,20 @@
 -- A level is a count: the level of a bit is the number of bits that come before it (before_level), and the number of
 -- levels is the number of bits that come before bit 32 (before_levels).
 use Prim.Native.Nat.{ℕ, zero, suc, ◌+◌, ◌≤◌, ◌<◌}
-use mathlib.Core.Path.{◌≡◌, refl, sym, ap, ap₂, ◌∙◌}
+use mathlib.Core.Path.{◌≡◌, refl, ap, ap₂, ◌∙◌}
 use mathlib.Core.Bool.{Bool, true, false, cond, and-false}
 use mathlib.Core.List.{List, [], ◌∷◌, ◌++◌}
 use lib.Dec.{eqb, ltb, leb}
-use lib.ListN.{length, get_or, length-append}
+use lib.ListN.{length, length-append}
 use native.Mathlib.Numerals.{add-one}
 use native.Mathlib.Omega.{arith}
 use borrow.Author.Tests.{ltb-true, ltb-false, leb-true, eqb-true, eqb-false}
 use borrow.Author.Tests.{lt-ltb, le-ltb, le-leb, lt-leb, eq-eqb, ne_eqb}
 use Rattle.meaning.specs.Kind.{Sort}
-use Rattle.meaning.specs.Sheet.{Entry, count, record_at, rule_at, width_at, entry_at, entries, entry}
+use Rattle.meaning.specs.Sheet.{Entry, count, rule_at, width_at, entry_at, entries, entry}
 use Rattle.meaning.specs.Level.{Spot, bits_of, variable_bits, having, order_from, order, find, level, levels}
-use Rattle.sheet.specs.Kind.{sort_code}
 use Rattle.sheet.specs.Laid.{Laid}
 use Rattle.sheet.specs.Level.{ahead, before}
-use Rattle.sheet.proofs.Laws.Kind.{variable_sort, other_sort_lem}
 use Rattle.sheet.proofs.Laws.Sheet.{entry_at_lem, rest, rest_begin, rest_more, rest_end}
 
 abbrev spot : ℕ → ℕ → Spot
@@ -175,40 +173,9 @@ unfolding level order
 before_level es i b has narrow =
     omega (arith, before_split i b 0 es, find_order i b 0 32 es has (omega arith) (omega arith), low_zero es)
 
--- ---- the paths of the code
+-- ---- the loop of `before`
 
-module _ (w j i b : ℕ) where
-  pub ahead_all : w ≤ b → w ≡ ahead w j i b
-  ahead_all all = rw (le-leb w b all) refl
-
-  pub ahead_first : b < w → j < i → b + 1 ≡ ahead w j i b
-  ahead_first has first = rw (lt-leb w b has, lt-ltb j i first) refl
-
-  pub ahead_later : b < w → i ≤ j → b ≡ ahead w j i b
-  ahead_later has later = rw (lt-leb w b has, le-ltb j i later) refl
-
-bits_other : (sort : Sort) (w : ℕ) → (sort_code sort ≡ 1 → ⊥) → 0 ≡ bits_of sort w
-bits_other Sort.variable w other = absurd (other refl)
-bits_other Sort.term w other = refl
-bits_other Sort.formula w other = refl
-bits_other Sort.neither w other = refl
-
-bits_own : (sort : Sort) (w : ℕ) → sort_code sort ≡ 1 → w ≡ bits_of sort w
-bits_own Sort.variable w one = refl
-bits_own Sort.term w one = absurd (omega arith)
-bits_own Sort.formula w one = absurd (omega arith)
-bits_own Sort.neither w one = absurd (omega arith)
-
-module _ (s : List ℕ) (j k : ℕ) (is : k ≡ get_or s (record_at j) 0) where
-  pub bits_none : (k ≡ 1 → ⊥) → 0 ≡ variable_bits (entry_at s j)
-  bits_none other =
-      bits_other (rule_at s j).sort (width_at s j) (other_sort_lem (get_or s (record_at j) 0) (λ q. other (is ∙ q)))
-
-  pub bits_some : (w : ℕ) → k ≡ 1 → w ≡ width_at s j → w ≡ variable_bits (entry_at s j)
-  bits_some w one is_w =
-      is_w ∙ bits_own (rule_at s j).sort (width_at s j) (variable_sort (get_or s (record_at j) 0) (sym is ∙ one))
-
--- the loop of `before`: so many were counted, and so many are left from entry j on
+-- so many were counted, and so many are left from entry j on
 pub record Counted (s : List ℕ) (i b n total j : ℕ) : Type 0 where
   pub whole : before i b 0 (entries s) ≡ total + before i b j (rest s n j)
 

@@ -1,21 +1,20 @@
 -- A sheet that is laid out: its entries, as the definitions have them, are what the code reads.
 use Prim.Native.Nat.{ℕ, suc, ◌+◌, ◌-◌, ◌*◌, ◌≤◌, ◌<◌}
 use mathlib.Core.Path.{◌≡◌, refl, sym, ap, ◌∙◌}
-use mathlib.Core.Bool.{Bool, true}
+use mathlib.Core.Logic.{◌⊎◌, inl, inr}
 use mathlib.Core.List.{List, [], ◌∷◌}
-use lib.ListN.{length, get_or, take, drop, length-take, length-drop}
+use lib.ListN.{length, get_or, length-take, length-drop}
 use native.Mathlib.Numerals.{add-one}
 use native.Mathlib.Omega.{arith}
 use Rattle.meaning.specs.Number.{each}
-use Rattle.meaning.specs.Kind.{Rule, a_term}
+use Rattle.meaning.specs.Kind.{Rule, rule_of, rules}
 use Rattle.meaning.specs.Sheet.{Entry, count, record_at, rule_at, place, body, no_entry, entry_at, entries, entry}
-use Rattle.meaning.specs.Check.{operands_fit}
 use Rattle.meaning.proofs.Laws.Number.{up_to_at}
 use Rattle.sheet.specs.declared.kind.Kind.{Kind}
-use Rattle.sheet.specs.Kind.{codes_of, need_code, need_at}
-use Rattle.sheet.specs.Laid.{Laid, Entered, Suited}
-use Rattle.sheet.proofs.Laws.Kind.{codes_operands, need_at_lem, Made, rule_made}
-use Rattle.sheet.proofs.Laws.Read.{body_end, body_is}
+use Rattle.sheet.specs.declared.kind.Kind.TheVariants.{Constant, Extract, ShiftLeft, ShiftRight}
+use Rattle.sheet.specs.Kind.{number_of}
+use Rattle.sheet.specs.Laid.{Laid, IsEntry}
+use Rattle.sheet.proofs.Laws.Kind.{Made, rule_made}
 
 pub entry_at_lem : (s : List ℕ) (i : ℕ) → i < count s → entry (entries s) i ≡ entry_at s i
 unfolding entries
@@ -46,49 +45,32 @@ body_length s i inside = rw (length-take, length-drop) (omega arith)
 pub record_inside : {s : List ℕ} → Laid s → (i : ℕ) → i < count s → record_at (i + 1) ≤ length s
 record_inside laid i inside = omega arith
 
--- and so does a part as long as the entry's row says
-pub part_inside : {s : List ℕ} → Laid s → (i : ℕ) (k : Kind) → i < count s → k ≡ codes_of (rule_at s i) →
-    (record_at (i + 1) ≤ length s) × (place s i + k.body ≤ length s)
-part_inside {s} laid i k inside is_kind =
-    (record_inside laid i inside, body_end s i k is_kind (laid.bodies i inside))
-
 pub row_made : (s : List ℕ) (i : ℕ) → Made (rule_at s i)
 row_made s i = rule_made (get_or s (record_at i) 0)
 
-module _ (s b : List ℕ) (i : ℕ) (k : Kind) (at : Entered s b i k) where
-  pub entered_length : length b ≡ (rule_at s i).body
-  entered_length = ap length at.body_is ∙ body_length s i (at.laid.bodies i at.inside)
+-- the entry's row is its kind's
+pub entry_rule : {s b : List ℕ} {i w : ℕ} {kind : Kind} → IsEntry s i kind w b → rule_of (number_of kind) ≡ rule_at s i
+entry_rule at = ap rule_of at.kind_is
+
+module _ {s b : List ℕ} {i w : ℕ} {kind : Kind} (laid : Laid s) (at : IsEntry s i kind w b) where
+  -- a body is as long as the entry's row says
+  pub entry_length : length b ≡ (rule_at s i).body
+  entry_length = ap length at.body_is ∙ body_length s i (laid.bodies i at.inside)
 
   -- an operand lies inside the body
-  pub entered_operand : (n : ℕ) → n < length (rule_at s i).operands → 2 * n + 2 ≤ length b
-  entered_operand n has = omega (arith, entered_length, (row_made s i).operands_in)
+  pub entry_operand : (k : ℕ) → k < length (rule_at s i).operands → 2 * k + 2 ≤ length b
+  entry_operand k has = omega (arith, entry_length, (row_made s i).operands_in)
 
-  pub entered_few : (n : ℕ) → n < length (rule_at s i).operands → n < 3
-  entered_few n has = omega (arith, (row_made s i).operands_le)
+  -- a constant's body and an extract's are four bytes long, a shift's three
+  pub constant_long : kind ≡ Constant → length b ≡ 4
+  unfolding rule_of rules
+  constant_long is = entry_length ∙ sym (ap (λ (r : Rule). r.body) (entry_rule at)) ∙ rw is refl
 
-  many : k.operands ≡ length (rule_at s i).operands
-  many = codes_operands k (rule_at s i) at.kind_is
+  pub extract_long : kind ≡ Extract → length b ≡ 4
+  unfolding rule_of rules
+  extract_long is = entry_length ∙ sym (ap (λ (r : Rule). r.body) (entry_rule at)) ∙ rw is refl
 
-  -- operand n is one of the entry's, or past them
-  pub entered_has : {n : ℕ} → n < k.operands → n < length (rule_at s i).operands
-  entered_has more = omega (arith, many)
-
-  pub entered_done : {n : ℕ} → k.operands ≤ n → length (rule_at s i).operands ≤ n
-  entered_done done = omega (arith, many)
-
-  -- what operand n has to be, as the code reads it
-  pub entered_need : (n need : ℕ) → n < length (rule_at s i).operands →
-      ((x : Rule) → k ≡ codes_of x → need ≡ need_at n x.operands) →
-      need ≡ need_code (get_or (rule_at s i).operands n a_term)
-  entered_need n need has is = is (rule_at s i) at.kind_is ∙ need_at_lem (rule_at s i).operands n has
-
-  -- where the operands fit
-  pub suited : {fit : Bool} → fit ≡ operands_fit (entries s) i (entry_at s i) 0 (rule_at s i).operands → fit ≡ true →
-      Suited s b i k
-  suited is passed = record { entered = at; fit = sym is ∙ passed }
-
--- an entry of a sheet that is laid out, as the code reads it
-pub entered : {s b : List ℕ} {i : ℕ} {k : Kind} → Laid s → i < count s → k ≡ codes_of (rule_at s i) →
-    b ≡ take k.body (drop (place s i) s) → Entered s b i k
-entered {s} {b} {i} {k} laid inside is_kind is_part =
-    record { laid = laid; inside = inside; kind_is = is_kind; body_is = body_is s i k is_kind b is_part }
+  pub shift_long : (kind ≡ ShiftLeft) ⊎ (kind ≡ ShiftRight) → length b ≡ 3
+  unfolding rule_of rules
+  shift_long (inl is) = entry_length ∙ sym (ap (λ (r : Rule). r.body) (entry_rule at)) ∙ rw is refl
+  shift_long (inr is) = entry_length ∙ sym (ap (λ (r : Rule). r.body) (entry_rule at)) ∙ rw is refl

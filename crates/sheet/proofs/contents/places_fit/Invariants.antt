@@ -5,7 +5,5 @@ use Rattle.meaning.specs.Check.{places_fit}
 use Rattle.sheet.proofs.contents.places_fit.Given as goal
 
 abbrev pub invariant-loop-i : goal.invariant-loop-i
-invariant-loop-i l = (l.i ≤ l.n) × ((l.at ≤ 1026 + 6 * l.i) × (places_fit l.s 0 l.n (record_at l.n) ≡ places_fit l.s l.i (l.n - l.i) l.at))
-
-abbrev pub decreases-loop-i : goal.decreases-loop-i
-decreases-loop-i l = l.n - l.i
+invariant-loop-i l =
+    (l.at ≤ 1026 + 256 * l.i) × (places_fit l.s 0 l.n (record_at l.n) ≡ places_fit l.s l.i (l.n - l.i) l.at)
