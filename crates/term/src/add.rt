@@ -1,25 +1,25 @@
-// Addition at a limit, and what is made of it: negation and multiplication.
-ghost use Rattle.std.specs.Prelude.{◌≡◌, false, length, ◌*◌, ◌≤◌};
+//! Addition at a limit, a place at a time: bit 0 first. Where an operand bit is unknown, or the sum bits up to here have more nodes
+//! than the limit, the bits from there on are unknown.
+ghost use Rattle.std.specs.Prelude.{◌≡◌, ◌*◌, ◌≤◌, length};
 ghost use Rattle.meaning.specs.Row as Definition;
-ghost use Rattle.diagram.specs.State.{Alive, Known};
-ghost use Rattle.term.specs.Row.{BitKnown, RowKnown};
-ghost use Rattle.term.specs.Add.{Sums, Carries, Clears, Countable, Told, Summing, cut_at, Places, Tallying};
-ghost use Rattle.term.specs.Add.{Addable, OnRow, OnRows, OnBit};
+ghost use Rattle.diagram.specs.State.{Ready, Known};
+ghost use Rattle.term.specs.Row.{BitKnown};
+ghost use Rattle.term.specs.Add.{Sums, Carries, Clears, Countable, Told, Summing, Places, Tallying};
+ghost use Rattle.term.specs.Add.{Addable, OnRows};
 
-use crate::bitwise::Operation;
-use crate::row::{Row, Worked};
-use crate::{bitwise, row};
-use diagram::builder::{Builder, Made};
+use crate::row::Row;
+use diagram::builder::{Builder, Made, NoRoom};
+use diagram::count::Marks;
 use diagram::number::Diagram;
+use diagram::scratch::Scratch;
 use diagram::table::Cell;
-use diagram::{count, function, table};
+use diagram::{function, table};
 
-// The next state, a xor b, and the sum bit.
+// a xor b, and the sum bit.
 #[derive(Clone, Copy)]
 struct Summed {
-    at: Builder,
-    half: u32,
-    sum: u32,
+    half: Diagram,
+    sum: Diagram,
 }
 
 // What is counted of a sum: the nodes of its first `bits` sum bits are marked, and there are `nodes` of them.
@@ -29,270 +29,220 @@ struct Tally {
     nodes: usize,
 }
 
-// A sum so far: the state, the sum bits, how many they are, the carry into the next, and what is counted. Cut: the next
-// bits are unknown.
+// A sum so far: the sum bits, how many they are, the carry into the next, and what is counted. Array and count stand side by side,
+// as in the row that they become: 32 numbers by value, copied as they are.
 #[derive(Clone, Copy)]
 struct Sum {
-    at: Builder,
     bits: [u32; 32],
     count: usize,
-    carry: u32,
+    carry: Diagram,
     tally: Tally,
-    cut: bool,
+}
+
+impl Sum {
+    // The sum as a row.
+    fn row(self, width: usize) -> Row
+        ensures { result ≡ record { bits = self.bits; width = width } }
+    {
+        let bits = self.bits;
+        Row { bits, width }
+    }
 }
 
 // a xor b, then that xor the carry.
-fn sum_bit(b: Builder, t: &mut [Cell], w: &mut [u32], x: u32, y: u32, carry: u32) -> Summed
-    requires { Alive t.old w.old b × (Known b x × (Known b y × Known b carry)) }
-    ensures { Sums t.old w.old b x y carry t.new w.new result.at result.half result.sum }
+fn sum_bit(
+    b: Builder,
+    t: &mut [Cell],
+    s: &mut Scratch,
+    x: Diagram,
+    y: Diagram,
+    carry: Diagram,
+) -> Result<Made<Summed>, NoRoom>
+    requires ready { Ready t.old s.old b }
+    requires known { Known b x × (Known b y × Known b carry) }
+    ensures { Sums t.old b x y carry t.new s.new result }
 {
-    let half = b.step(t, w, function::XOR, x, y, 0);
-    let after = half.at;
-    let sum = after.step(t, w, function::XOR, half.number, carry, 0);
-    let at = sum.at;
-    Summed {
-        at,
-        half: half.number,
-        sum: sum.number,
-    }
+    let half = b.step(t, s, function::XOR, x, y, Diagram::FALSE)?;
+    let sum = half
+        .at
+        .step(t, s, function::XOR, half.value, carry, Diagram::FALSE)?;
+    Ok(Made {
+        at: sum.at,
+        value: Summed {
+            half: half.value,
+            sum: sum.value,
+        },
+    })
 }
 
 // The next carry, unless this bit is the top: a and b, then (a xor b) and carry, then the or of the two.
 fn carry_bit(
     b: Builder,
     t: &mut [Cell],
-    w: &mut [u32],
-    half: u32,
-    x: u32,
-    y: u32,
-    carry: u32,
+    s: &mut Scratch,
+    half: Diagram,
+    x: Diagram,
+    y: Diagram,
+    carry: Diagram,
     top: bool,
-) -> Made
-    requires { Alive t.old w.old b × (Known b half × (Known b x × (Known b y × Known b carry))) }
-    ensures { Carries t.old w.old b half x y carry top t.new w.new result.at result.number }
+) -> Result<Made<Diagram>, NoRoom>
+    requires ready { Ready t.old s.old b }
+    requires known { Known b half × (Known b x × (Known b y × Known b carry)) }
+    ensures { Carries t.old b half x y carry top t.new s.new result }
 {
     if top {
-        return Made {
+        return Ok(Made {
             at: b,
-            number: carry,
-        };
+            value: carry,
+        });
     }
-    let made = b.step(t, w, function::AND, x, y, 0);
-    let after = made.at;
-    let passed = after.step(t, w, function::AND, half, carry, 0);
-    let last = passed.at;
-    last.step(t, w, function::OR, made.number, passed.number, 0)
+    let made = b.step(t, s, function::AND, x, y, Diagram::FALSE)?;
+    let passed = made
+        .at
+        .step(t, s, function::AND, half, carry, Diagram::FALSE)?;
+    passed.at.step(t, s, function::OR, made.value, passed.value, Diagram::FALSE)
 }
 
 // Before the first sum bit is counted nothing is marked, not even a slot that is used only later.
-fn clear(t: &[Cell], marks: &mut [u32], counted: usize)
-    requires { (length t.now ≤ 3145728) × (1048576 ≤ 32 * length marks.old) }
+fn clear<const N: usize>(t: &[Cell], marks: &mut Marks<N>, counted: usize)
+    requires small { length t.now ≤ 3145728 }
+    requires marks { 1048576 ≤ 32 * N }
     ensures { Clears t.now counted marks.old marks.new }
 {
-    if 0 < counted {
+    let counts_some = 0 < counted;
+    if counts_some {
         return;
     }
-    count::begin(marks, table::slots(t));
+    marks.clear(table::slots(t));
 }
 
 // Counts the distinct nodes of sum bits 0 to k - 1, those of the first bits being counted before. While no more slots
 // are used than the limit, the nodes can't exceed it, and none is counted.
-#[tactic(auto, using(crate::proofs::Laws::Count::told_few))]
-fn walk(
+fn walk<const N: usize>(
     b: Builder,
     t: &[Cell],
-    marks: &mut [u32],
-    limit: usize,
+    marks: &mut Marks<N>,
+    limit: u32,
     bits: [u32; 32],
     k: usize,
     before: Tally,
 ) -> Tally
-    requires { Countable t.now marks.old b limit bits k before }
+    requires countable { Countable t.now marks.old b limit bits k before }
+    requires marks { 1048576 ≤ 32 * N }
     ensures { Told t.now marks.new b limit bits k result }
 {
-    let used = b.used;
-    if used <= limit {
+    if b.used <= limit as usize {
         return before;
     }
     clear(t, marks, before.bits);
     let mut nodes = before.nodes;
-    let mut i = before.bits;
-    while i < k {
-        nodes = count::visit(t, marks, bits[i], nodes, limit);
-        i += 1;
+    for i in before.bits..k {
+        nodes = marks.visit(t, Diagram::new(bits[i]), nodes, limit);
     }
-    Tally { bits: i, nodes }
+    Tally { bits: k, nodes }
 }
 
-// The bits from here on are unknown.
-fn cut(s: Sum, at: Builder) -> Sum
-    ensures { result ≡ cut_at s at }
-{
-    let bits = s.bits;
-    let tally = s.tally;
-    Sum {
-        at,
-        bits,
-        count: s.count,
-        carry: s.carry,
-        tally,
-        cut: true,
-    }
-}
-
-// One place more, of operand bits x and y. An unknown one, or too many nodes, and all bits from there on are unknown.
-fn place(
-    s: Sum,
+// One place more, of operand bits x and y. None where one is unknown, or there are too many nodes: the bits from there on
+// are unknown.
+fn place<const N: usize>(
+    b: Builder,
     t: &mut [Cell],
-    w: &mut [u32],
-    marks: &mut [u32],
-    limit: usize,
-    x: u32,
-    y: u32,
+    s: &mut Scratch,
+    marks: &mut Marks<N>,
+    limit: u32,
+    sum: Sum,
+    x: Diagram,
+    y: Diagram,
     top: bool,
-) -> Sum
-    requires { Summing t.old w.old marks.old limit s × (BitKnown s.at x × BitKnown s.at y) }
-    ensures { Places limit t.old w.old s x y top t.new w.new result × Tallying t.new marks.new limit result }
+) -> Result<Made<Option<Sum>>, NoRoom>
+    requires summing { Summing t.old s.old marks.old b limit sum }
+    requires known { BitKnown b x × BitKnown b y }
+    requires marks { 1048576 ≤ 32 * N }
+    ensures place { Places limit t.old b sum x y top t.new s.new result }
+    ensures tally { Tallying t.new marks.new limit result }
 {
-    let b = s.at;
-    if x == Diagram::UNKNOWN.0 {
-        return cut(s, b);
+    // the bits from here on are unknown
+    let cut: Option<Sum> = None;
+    if x == Diagram::UNKNOWN {
+        return Ok(Made { at: b, value: cut });
     }
-    if y == Diagram::UNKNOWN.0 {
-        return cut(s, b);
+    if y == Diagram::UNKNOWN {
+        return Ok(Made { at: b, value: cut });
     }
-    let carry = s.carry;
-    let made = sum_bit(b, t, w, x, y, carry);
+    let made = sum_bit(b, t, s, x, y, sum.carry)?;
     let at = made.at;
-    if at.full {
-        return cut(s, at);
+    let summed = made.value;
+    let i = sum.count;
+    let mut bits = sum.bits;
+    bits[i] = summed.sum.number();
+    let tally = walk(at, t, marks, limit, bits, i + 1, sum.tally);
+    let too_many = (limit as usize) < tally.nodes;
+    if too_many {
+        return Ok(Made { at, value: cut });
     }
-    let i = s.count;
-    let mut bits = s.bits;
-    bits[i] = made.sum;
-    let so_far = s.tally;
-    let tally = walk(at, t, marks, limit, bits, i + 1, so_far);
-    if limit < tally.nodes {
-        return cut(s, at);
-    }
-    let next = carry_bit(at, t, w, made.half, x, y, carry, top);
-    let after = next.at;
-    Sum {
-        at: after,
-        bits,
-        count: i + 1,
-        carry: next.number,
-        tally,
-        cut: false,
-    }
+    let next = carry_bit(at, t, s, summed.half, x, y, sum.carry, top)?;
+    Ok(Made {
+        at: next.at,
+        value: Some(Sum {
+            bits,
+            count: i + 1,
+            carry: next.value,
+            tally,
+        }),
+    })
 }
 
-// The sum as a row.
-fn worked(s: Sum, width: usize) -> Worked
-    ensures { result ≡ record { at = s.at; row = record { bits = s.bits; width = width } } }
-{
-    let at = s.at;
-    let bits = s.bits;
-    Worked {
-        at,
-        row: Row { bits, width },
-    }
-}
-
-// Carry into bit 0 is false.
-pub fn add(
+/// The sum of two rows of one width at the limit; the carry into bit 0 is false. The limit is a count of nodes: a bit is unknown from
+/// where the sum bits up to it have more. `NoRoom` comes exactly where the steps need more nodes than the table has slots.
+/// The marks are for 1,048,576 slots or more, those of the largest table.
+// Marks and limit stand apart: lent as one, each function here would have to promise that the limit stays as it was.
+pub fn add<const N: usize>(
     b: Builder,
     t: &mut [Cell],
-    w: &mut [u32],
-    marks: &mut [u32],
-    limit: usize,
+    s: &mut Scratch,
+    marks: &mut Marks<N>,
+    limit: u32,
     x: Row,
     y: Row,
-) -> Worked
-    requires { Addable t.old w.old marks.old b limit x y }
-    ensures { OnRows (λ n. Definition.add n limit) x y t.old w.old b t.new w.new result.at result.row }
-{
-    let width = x.width;
-    let mut s = Sum {
-        at: b,
-        bits: [Diagram::UNKNOWN.0; 32],
-        count: 0,
-        carry: Diagram::FALSE.0,
-        tally: Tally { bits: 0, nodes: 0 },
-        cut: false,
-    };
-    while s.count < width {
-        let i = s.count;
-        s = place(s, t, w, marks, limit, x.bits[i], y.bits[i], i + 1 == width);
-        if s.cut {
-            return worked(s, width);
-        }
-    }
-    worked(s, width)
-}
-
-// The bitwise not, then add constant 1.
-pub fn negate(
-    b: Builder,
-    t: &mut [Cell],
-    w: &mut [u32],
-    marks: &mut [u32],
-    limit: usize,
-    x: Row,
-) -> Worked
-    requires { Addable t.old w.old marks.old b limit x x }
-    ensures { OnRow (λ n. Definition.negate n limit) x t.old w.old b t.new w.new result.at result.row }
-{
-    let width = x.width;
-    let flipped = bitwise::work(b, t, w, Operation::Not, x, x);
-    let at = flipped.at;
-    let opposite = flipped.row;
-    let one = row::constant(width, 1);
-    add(at, t, w, marks, limit, opposite, one)
-}
-
-// The row whose places below j are false and whose place k is x(k - j) and the bit y.
-fn partial(b: Builder, t: &mut [Cell], w: &mut [u32], j: usize, x: Row, y: u32) -> Worked
-    requires { Alive t.old w.old b × (RowKnown b x × (BitKnown b y × (j ≤ x.width))) }
-    ensures { OnBit j x y t.old w.old b t.new w.new result.at result.row }
-{
-    let width = x.width;
-    let left = width - j;
-    let low = row::low_part(x, left);
-    let many = row::filled(left, y);
-    let made = bitwise::work(b, t, w, Operation::And, low, many);
-    let at = made.at;
-    let high = made.row;
-    let zeros = row::filled(width, Diagram::FALSE.0);
-    let row = row::placed(zeros, j, high, 0, left);
-    Worked { at, row }
-}
-
-// Start with zero; for each bit of y, 0 first, add its row.
-pub fn multiply(
-    b: Builder,
-    t: &mut [Cell],
-    w: &mut [u32],
-    marks: &mut [u32],
-    limit: usize,
-    x: Row,
-    y: Row,
-) -> Worked
-    requires { Addable t.old w.old marks.old b limit x y }
-    ensures { OnRows (λ n. Definition.multiply n limit) x y t.old w.old b t.new w.new result.at result.row }
+) -> Result<Made<Row>, NoRoom>
+    requires addable { Addable t.old s.old b x y }
+    requires marks { 1048576 ≤ 32 * N }
+    ensures { OnRows (λ n. Definition.add n limit) x y t.old b t.new s.new result }
 {
     let width = x.width;
     let mut at = b;
-    let mut sum = row::filled(width, Diagram::FALSE.0);
-    let mut j = 0;
-    while j < width {
-        let p = partial(at, t, w, j, x, y.bits[j]);
-        let after = p.at;
-        let more = p.row;
-        let s = add(after, t, w, marks, limit, sum, more);
-        at = s.at;
-        sum = s.row;
-        j += 1;
+    let mut sum = Sum {
+        bits: [Diagram::UNKNOWN.number(); 32],
+        count: 0,
+        carry: Diagram::FALSE,
+        tally: Tally { bits: 0, nodes: 0 },
+    };
+    for i in 0..width {
+        // a copy goes in: where the place is cut, `sum` is what there is
+        let so_far = sum;
+        let placed = place(
+            at,
+            t,
+            s,
+            marks,
+            limit,
+            so_far,
+            x.place(i),
+            y.place(i),
+            i + 1 == width,
+        )?;
+        at = placed.at;
+        let more = placed.value;
+        let Some(next) = more else {
+            return Ok(Made {
+                at,
+                value: sum.row(width),
+            });
+        };
+        sum = next;
     }
-    Worked { at, row: sum }
+    Ok(Made {
+        at,
+        value: sum.row(width),
+    })
 }

@@ -1,140 +1,188 @@
-// The operations that go place by place, bit 0 first, one step a bit.
-ghost use Rattle.std.specs.Prelude.{◌≡◌, ℕ, ◌<◌, ◌≤◌};
+//! The operations that go place by place, bit 0 first, one step a bit.
+ghost use Rattle.std.specs.Prelude.{◌≡◌, ℕ, ◌<◌, ◌≤◌, Ok};
 ghost use Rattle.meaning.specs.Diagram.{Tree};
 ghost use Rattle.meaning.specs.Row as Definition;
-ghost use Rattle.meaning.specs.Row.{Bit, known, pair_bit, choose_bit, both_bits};
+ghost use Rattle.meaning.specs.Row.{Bit, known, pair_bit, chosen, choose_bit, both_bits};
 ghost use Rattle.diagram.specs.Function.{table_of};
-ghost use Rattle.diagram.specs.State.{Alive, Known};
-ghost use Rattle.term.specs.Row.{BitKnown, RowKnown, RowMeans, Makes};
-ghost use Rattle.term.specs.Bit.{bit_of, BitMeans, BitMade, Decider, decides, decided_of, Under, UnderKnown};
+ghost use Rattle.diagram.specs.State.{Ready, Known, Works};
+ghost use Rattle.term.specs.Row.{BitKnown, BitMeans, RowKnown, RowMeans};
+ghost use Rattle.term.specs.Bit.{bit_of, decides, decided_of, Under, UnderKnown};
 
-use crate::row::{Row, Worked};
-use diagram::builder::{Builder, Made};
+use crate::row::Row;
+use diagram::builder::{Builder, Made, NoRoom};
 use diagram::function;
 use diagram::number::Diagram;
+use diagram::scratch::Scratch;
 use diagram::table::Cell;
 
-// The condition of an if-then-else has two numbers, must and may.
-#[derive(Clone, Copy)]
+/// What is done with each pair of bits; not looks at the first alone. If-then-else takes the first bit where its condition
+/// holds, and the condition has two diagrams, must and may.
+#[derive(Clone, Copy, Debug, PartialEq, Eq)]
 pub enum Operation {
     Not,
     And,
     Or,
     Xor,
-    Choose(u32, u32),
+    Choose { must: Diagram, may: Diagram },
+}
+
+// What is there already: it takes no step.
+fn still(b: Builder, value: Diagram) -> Result<Made<Diagram>, NoRoom>
+    ensures { result ≡ Ok (record { at = b; value = value }) }
+{
+    Ok(Made { at: b, value })
 }
 
 // A known bit where it alone decides, else unknown.
-fn decided(a: u32, decider: u32) -> u32
+fn decided(a: Diagram, decider: Option<bool>) -> Diagram
     ensures { result ≡ decided_of a decider }
 {
-    if a == decider {
-        return a;
+    match decider {
+        Some(value) if a.number() == value as u32 => a,
+        _ => Diagram::UNKNOWN,
     }
-    Diagram::UNKNOWN.0
 }
 
 // Two bits of and, or, xor.
-fn pair_bit(b: Builder, t: &mut [Cell], w: &mut [u32], f: u32, decider: u32, x: u32, y: u32) -> Made
-    requires { Alive t.old w.old b × ((f < 256) × (Decider decider × (BitKnown b x × BitKnown b y))) }
-    ensures { (n : ℕ) (p q : Bit) → n ≤ 128 → BitMeans n t.old b x p → BitMeans n t.old b y q → BitMade n t.old w.old b (pair_bit n (table_of f) (decides decider) p q) t.new w.new result.at result.number }
+fn pair_bit(
+    b: Builder,
+    t: &mut [Cell],
+    s: &mut Scratch,
+    f: u8,
+    decider: Option<bool>,
+    x: Diagram,
+    y: Diagram,
+) -> Result<Made<Diagram>, NoRoom>
+    requires ready { Ready t.old s.old b }
+    requires known { BitKnown b x × BitKnown b y }
+    ensures { (n : ℕ) (p q : Bit) → n ≤ 128 → BitMeans n t.old b x p → BitMeans n t.old b y q →
+        Works (BitMeans n) t.old b (pair_bit n (table_of f) (decides decider) p q) t.new s.new result }
 {
-    if x == Diagram::UNKNOWN.0 {
-        return Made {
-            at: b,
-            number: decided(y, decider),
-        };
+    if x == Diagram::UNKNOWN {
+        return still(b, decided(y, decider));
     }
-    if y == Diagram::UNKNOWN.0 {
-        return Made {
-            at: b,
-            number: decided(x, decider),
-        };
+    if y == Diagram::UNKNOWN {
+        return still(b, decided(x, decider));
     }
-    b.step(t, w, f, x, y, 0)
+    b.step(t, s, f, x, y, Diagram::FALSE)
+}
+
+// Two bits under a condition of one diagram.
+fn chosen(
+    b: Builder,
+    t: &mut [Cell],
+    s: &mut Scratch,
+    condition: Diagram,
+    x: Diagram,
+    y: Diagram,
+) -> Result<Made<Diagram>, NoRoom>
+    requires ready { Ready t.old s.old b }
+    requires condition { Known b condition }
+    requires known { BitKnown b x × BitKnown b y }
+    ensures { (n : ℕ) (c : Tree) (p q : Bit) → n ≤ 128 → BitMeans n t.old b condition (known c) →
+        BitMeans n t.old b x p → BitMeans n t.old b y q →
+        Works (BitMeans n) t.old b (chosen n c p q) t.new s.new result }
+{
+    if condition == Diagram::TRUE {
+        return still(b, x);
+    }
+    if condition == Diagram::FALSE {
+        return still(b, y);
+    }
+    if x == Diagram::UNKNOWN {
+        return still(b, x);
+    }
+    if y == Diagram::UNKNOWN {
+        return still(b, y);
+    }
+    b.step(t, s, function::CHOICE, condition, x, y)
 }
 
 // Two bits under a condition whose must and may are these.
-#[tactic(auto, using(crate::proofs::Laws::Bit::quiet, crate::proofs::Laws::Bit::choose_true, crate::proofs::Laws::Bit::choose_false))]
 fn choose_bit(
     b: Builder,
     t: &mut [Cell],
-    w: &mut [u32],
-    must: u32,
-    may: u32,
-    x: u32,
-    y: u32,
-) -> Made
-    requires { Alive t.old w.old b × (Known b must × (BitKnown b x × BitKnown b y)) }
-    ensures { (n : ℕ) (c d : Tree) (p q : Bit) → n ≤ 128 → BitMeans n t.old b must (known c) → BitMeans n t.old b may (known d) → BitMeans n t.old b x p → BitMeans n t.old b y q → BitMade n t.old w.old b (choose_bit n c d p q) t.new w.new result.at result.number }
+    s: &mut Scratch,
+    must: Diagram,
+    may: Diagram,
+    x: Diagram,
+    y: Diagram,
+) -> Result<Made<Diagram>, NoRoom>
+    requires ready { Ready t.old s.old b }
+    requires condition { Known b must }
+    requires known { BitKnown b x × BitKnown b y }
+    ensures { (n : ℕ) (c d : Tree) (p q : Bit) → n ≤ 128 → BitMeans n t.old b must (known c) → BitMeans n t.old b may (known d) →
+        BitMeans n t.old b x p → BitMeans n t.old b y q →
+        Works (BitMeans n) t.old b (choose_bit n c d p q) t.new s.new result }
 {
-    let unknown = Diagram::UNKNOWN.0;
     if x == y {
-        return Made { at: b, number: x };
+        return still(b, x);
     }
-    if must != may {
-        return Made {
-            at: b,
-            number: unknown,
-        };
+    if must == may {
+        return chosen(b, t, s, must, x, y);
     }
-    if must == 1 {
-        return Made { at: b, number: x };
-    }
-    if must == 0 {
-        return Made { at: b, number: y };
-    }
-    if x == unknown {
-        return Made {
-            at: b,
-            number: unknown,
-        };
-    }
-    if y == unknown {
-        return Made {
-            at: b,
-            number: unknown,
-        };
-    }
-    b.step(t, w, function::CHOICE, must, x, y)
+    still(b, Diagram::UNKNOWN)
 }
 
-// One bit of an operation.
-fn bit(b: Builder, t: &mut [Cell], w: &mut [u32], op: Operation, x: u32, y: u32) -> Made
-    requires { Alive t.old w.old b × (UnderKnown b op × (BitKnown b x × BitKnown b y)) }
-    ensures { (n : ℕ) (must may : Tree) (p q : Bit) → n ≤ 128 → Under n t.old b op must may → BitMeans n t.old b x p → BitMeans n t.old b y q → BitMade n t.old w.old b (bit_of n op must may p q) t.new w.new result.at result.number }
+// One bit of an operation. A `match` on a value, no closure: one for each operation would take the state, table and scratch as
+// its arguments and repeat this contract, so it is no plainer. The operation is lent: what holds a diagram isn't copied in a loop.
+fn bit(
+    b: Builder,
+    t: &mut [Cell],
+    s: &mut Scratch,
+    op: &Operation,
+    x: Diagram,
+    y: Diagram,
+) -> Result<Made<Diagram>, NoRoom>
+    requires ready { Ready t.old s.old b }
+    requires condition { UnderKnown b op.now }
+    requires known { BitKnown b x × BitKnown b y }
+    ensures { (n : ℕ) (must may : Tree) (p q : Bit) → n ≤ 128 → Under n t.old b op.now must may →
+        BitMeans n t.old b x p → BitMeans n t.old b y q →
+        Works (BitMeans n) t.old b (bit_of n op.now must may p q) t.new s.new result }
 {
-    match op {
+    match *op {
         Operation::Not => {
-            if x == Diagram::UNKNOWN.0 {
-                return Made { at: b, number: x };
+            if x == Diagram::UNKNOWN {
+                return still(b, x);
             }
-            b.step(t, w, function::NOT, x, 0, 0)
+            b.step(t, s, function::NOT, x, Diagram::FALSE, Diagram::FALSE)
         }
-        Operation::And => pair_bit(b, t, w, function::AND, 0, x, y),
-        Operation::Or => pair_bit(b, t, w, function::OR, 1, x, y),
-        Operation::Xor => pair_bit(b, t, w, function::XOR, Diagram::UNKNOWN.0, x, y),
-        Operation::Choose(must, may) => choose_bit(b, t, w, must, may, x, y),
+        Operation::And => pair_bit(b, t, s, function::AND, Some(false), x, y),
+        Operation::Or => pair_bit(b, t, s, function::OR, Some(true), x, y),
+        Operation::Xor => pair_bit(b, t, s, function::XOR, None, x, y),
+        Operation::Choose { must, may } => choose_bit(b, t, s, must, may, x, y),
     }
 }
 
-// Every bit, 0 first.
-pub fn work(b: Builder, t: &mut [Cell], w: &mut [u32], op: Operation, x: Row, y: Row) -> Worked
-    requires { Alive t.old w.old b × (UnderKnown b op × (RowKnown b x × (RowKnown b y × (x.width ≡ y.width)))) }
-    ensures { (n : ℕ) (must may : Tree) (r s : Definition.Row) → n ≤ 128 → Under n t.old b op must may → RowMeans n t.old b x r → RowMeans n t.old b y s → Makes n t.old w.old b (both_bits (bit_of n op must may) r s) t.new w.new result.at result.row }
+/// The operation on each pair of bits of two rows of one width, bit 0 first; not is of `x` alone. `NoRoom` comes exactly where
+/// the steps need more nodes than the table has slots.
+pub fn work(
+    b: Builder,
+    t: &mut [Cell],
+    s: &mut Scratch,
+    op: Operation,
+    x: Row,
+    y: Row,
+) -> Result<Made<Row>, NoRoom>
+    requires ready { Ready t.old s.old b }
+    requires condition { UnderKnown b op }
+    requires known { RowKnown b x × RowKnown b y }
+    requires width { x.width ≡ y.width }
+    ensures { (n : ℕ) (must may : Tree) (q r : Definition.Row) → n ≤ 128 → Under n t.old b op must may →
+        RowMeans n t.old b x q → RowMeans n t.old b y r →
+        Works (RowMeans n) t.old b (both_bits (bit_of n op must may) q r) t.new s.new result }
 {
     let width = x.width;
     let mut at = b;
     let mut bits = [0u32; 32];
-    let mut i = 0;
-    while i < width {
-        let made = bit(at, t, w, op, x.bits[i], y.bits[i]);
+    for i in 0..width {
+        let made = bit(at, t, s, &op, x.place(i), y.place(i))?;
         at = made.at;
-        bits[i] = made.number;
-        i += 1;
+        bits[i] = made.value.number();
     }
-    Worked {
+    Ok(Made {
         at,
-        row: Row { bits, width },
-    }
+        value: Row { bits, width },
+    })
 }

@@ -1,138 +1,151 @@
-// One term's value: a row of 32 places with its width. Each place is a diagram's number or the unknown mark.
+//! One term's value: a row of 32 places with its width. Each place is a diagram's number or the unknown mark.
 ghost use Rattle.std.specs.Prelude.{◌≡◌, ◌++◌, map, ◌+◌, ◌-◌, ◌<◌, ◌≤◌, get_or, take, drop, replicate};
 ghost use Rattle.std.proofs.Math.Seq.{paste};
 ghost use Rattle.meaning.specs.Number.{bits, digit};
-ghost use Rattle.term.specs.Row.{places};
 
-use diagram::builder::Builder;
 use diagram::number::Diagram;
 
+/// A row: its width, and the numbers of its places, bit 0 first. The places from the width on are no part of it.
+// An array with a width beside it: memory is fixed, and rows are handed on by value. That the width is at most 32 stays in
+// clauses: as a ghost field it would ask more of those who call `low_part`.
 #[derive(Clone, Copy)]
 pub struct Row {
     pub bits: [u32; 32],
     pub width: usize,
 }
 
-// The next state of the builder, and the row made.
-#[derive(Clone, Copy)]
-pub struct Worked {
-    pub at: Builder,
-    pub row: Row,
-}
+impl Row {
+    ghost use Rattle.term.specs.Row.{places};
 
-// Every place holds the same number.
-pub fn filled(width: usize, number: u32) -> Row
-    requires { width ≤ 32 }
-    ensures { (result.width ≡ width) × (places result ≡ replicate width number) }
-{
-    Row {
-        bits: [number; 32],
-        width,
+    /// Every place holds the same number.
+    pub fn filled(width: usize, number: Diagram) -> Row
+        requires { width ≤ 32 }
+        ensures width { result.width ≡ width }
+        ensures places { places result ≡ replicate width number }
+    {
+        Row {
+            bits: [number.number(); 32],
+            width,
+        }
     }
-}
 
-// `into`, with `count` places of `of` from `from` on put at `at`.
-#[tactic(auto, using(crate::proofs::Laws::Places::put_done))]
-pub fn placed(into: Row, at: usize, of: Row, from: usize, count: usize) -> Row
-    requires { (into.width ≤ 32) × ((of.width ≤ 32) × ((at + count ≤ into.width) × (from + count ≤ of.width))) }
-    ensures { (result.width ≡ into.width) × (places result ≡ paste (places into) at (drop from (places of)) count) }
-{
-    let width = into.width;
-    let mut bits = into.bits;
-    let mut i = 0;
-    while i < count {
-        bits[at + i] = of.bits[from + i];
-        i += 1;
+    /// A constant's bits are terminals.
+    pub fn constant(width: usize, value: u32) -> Row
+        requires { width ≤ 32 }
+        ensures width { result.width ≡ width }
+        ensures places { places result ≡ map digit (bits width value) }
+    {
+        let mut bits = [0u32; 32];
+        let mut rest = value;
+        for i in 0..width {
+            bits[i] = rest % 2;
+            rest /= 2;
+        }
+        Row { bits, width }
     }
-    Row { bits, width }
-}
 
-// A constant's bits are terminals.
-pub fn constant(width: usize, value: u32) -> Row
-    requires { width ≤ 32 }
-    ensures { (result.width ≡ width) × (places result ≡ map digit (bits width value)) }
-{
-    let mut bits = [0u32; 32];
-    let mut rest = value;
-    let mut i = 0;
-    while i < width {
-        bits[i] = rest % 2;
-        rest = rest / 2;
-        i += 1;
+    /// The diagram at place i.
+    pub fn place(&self, i: usize) -> Diagram
+        requires { i < 32 }
+        ensures { result ≡ get_or self.now.bits i 0 }
+    {
+        Diagram::new(self.bits[i])
     }
-    Row { bits, width }
-}
 
-// Up by k places; the places below are false.
-#[tactic(auto, using(crate::proofs::Laws::Places::moved_up))]
-pub fn shift_left(k: usize, a: Row) -> Row
-    requires { (a.width ≤ 32) × (k ≤ a.width) }
-    ensures { (result.width ≡ a.width) × (places result ≡ replicate k 0 ++ take (a.width - k) (places a)) }
-{
-    let width = a.width;
-    placed(filled(width, Diagram::FALSE.0), k, a, 0, width - k)
-}
+    /// This row, with `count` places of `of` from `from` on put at `at`.
+    pub fn placed(self, at: usize, of: Row, from: usize, count: usize) -> Row
+        requires narrow { (self.width ≤ 32) × (of.width ≤ 32) }
+        requires fits { at + count ≤ self.width }
+        requires inside { from + count ≤ of.width }
+        ensures width { result.width ≡ self.width }
+        ensures places { places result ≡ paste (places self) at (drop from (places of)) count }
+    {
+        let width = self.width;
+        let mut bits = self.bits;
+        bits[at..at + count].copy_from_slice(&of.bits[from..from + count]);
+        Row { bits, width }
+    }
 
-// Down by k places; the places above are false.
-#[tactic(auto, using(crate::proofs::Laws::Places::moved_down))]
-pub fn shift_right(k: usize, a: Row) -> Row
-    requires { (a.width ≤ 32) × (k ≤ a.width) }
-    ensures { (result.width ≡ a.width) × (places result ≡ drop k (places a) ++ replicate k 0) }
-{
-    let width = a.width;
-    placed(filled(width, Diagram::FALSE.0), 0, a, k, width - k)
-}
+    /// Up by k places; the places below are false.
+    pub fn shift_left(self, k: usize) -> Row
+        requires narrow { self.width ≤ 32 }
+        requires inside { k ≤ self.width }
+        ensures width { result.width ≡ self.width }
+        ensures places { places result ≡ replicate k 0 ++ take (self.width - k) (places self) }
+    {
+        Row::filled(self.width, Diagram::FALSE).placed(k, self, 0, self.width - k)
+    }
 
-// The first operand is the high part.
-pub fn concat(a: Row, b: Row) -> Row
-    requires { a.width + b.width ≤ 32 }
-    ensures { (result.width ≡ a.width + b.width) × (places result ≡ places b ++ places a) }
-{
-    let low = b.width;
-    let width = a.width;
-    placed(zero_extend(width + low, b), low, a, 0, width)
-}
+    /// Down by k places; the places above are false.
+    pub fn shift_right(self, k: usize) -> Row
+        requires narrow { self.width ≤ 32 }
+        requires inside { k ≤ self.width }
+        ensures width { result.width ≡ self.width }
+        ensures places { places result ≡ drop k (places self) ++ replicate k 0 }
+    {
+        Row::filled(self.width, Diagram::FALSE).placed(0, self, k, self.width - k)
+    }
 
-// The lowest `count` places.
-pub fn low_part(a: Row, count: usize) -> Row
-    requires { count ≤ a.width }
-    ensures { (result.width ≡ count) × (places result ≡ take count (places a)) }
-{
-    let bits = a.bits;
-    Row { bits, width: count }
-}
+    /// This row above the other: it is the high part.
+    pub fn concat(self, low: Row) -> Row
+        requires { self.width + low.width ≤ 32 }
+        ensures width { result.width ≡ self.width + low.width }
+        ensures places { places result ≡ places low ++ places self }
+    {
+        let wide = low.zero_extend(self.width + low.width);
+        wide.placed(low.width, self, 0, self.width)
+    }
 
-// Places l to u.
-pub fn extract(u: usize, l: usize, a: Row) -> Row
-    requires { (a.width ≤ 32) × ((l ≤ u) × (u < a.width)) }
-    ensures { (result.width ≡ u - l + 1) × (places result ≡ take (u - l + 1) (drop l (places a))) }
-{
-    let width = u - l + 1;
-    placed(filled(width, Diagram::FALSE.0), 0, a, l, width)
-}
+    /// The lowest `count` places.
+    pub fn low_part(self, count: usize) -> Row
+        requires { count ≤ self.width }
+        ensures width { result.width ≡ count }
+        ensures places { places result ≡ take count (places self) }
+    {
+        let bits = self.bits;
+        Row { bits, width: count }
+    }
 
-// The new places on top are all `number`: false, or the top bit with its mark.
-#[tactic(auto, using(crate::proofs::Laws::Places::topped))]
-fn extended(width: usize, a: Row, number: u32) -> Row
-    requires { (width ≤ 32) × (a.width ≤ width) }
-    ensures { (result.width ≡ width) × (places result ≡ places a ++ replicate (width - a.width) number) }
-{
-    let old = a.width;
-    placed(filled(width, number), 0, a, 0, old)
-}
+    /// Places l to u.
+    pub fn extract(self, u: usize, l: usize) -> Row
+        requires narrow { self.width ≤ 32 }
+        requires order { l ≤ u }
+        requires inside { u < self.width }
+        ensures width { result.width ≡ u - l + 1 }
+        ensures places { places result ≡ take (u - l + 1) (drop l (places self)) }
+    {
+        let width = u - l + 1;
+        Row::filled(width, Diagram::FALSE).placed(0, self, l, width)
+    }
 
-pub fn zero_extend(width: usize, a: Row) -> Row
-    requires { (width ≤ 32) × (a.width ≤ width) }
-    ensures { (result.width ≡ width) × (places result ≡ places a ++ replicate (width - a.width) 0) }
-{
-    extended(width, a, Diagram::FALSE.0)
-}
+    // The new places on top are all `number`.
+    fn extended(self, width: usize, number: Diagram) -> Row
+        requires narrow { width ≤ 32 }
+        requires inside { self.width ≤ width }
+        ensures width { result.width ≡ width }
+        ensures places { places result ≡ places self ++ replicate (width - self.width) number }
+    {
+        Row::filled(width, number).placed(0, self, 0, self.width)
+    }
 
-pub fn sign_extend(width: usize, a: Row) -> Row
-    requires { (width ≤ 32) × ((a.width ≤ width) × (1 ≤ a.width)) }
-    ensures { (result.width ≡ width)
-        × (places result ≡ places a ++ replicate (width - a.width) (get_or (places a) (a.width - 1) 0)) }
-{
-    let top = a.width - 1;
-    extended(width, a, a.bits[top])
+    /// The new places on top are false.
+    pub fn zero_extend(self, width: usize) -> Row
+        requires narrow { width ≤ 32 }
+        requires inside { self.width ≤ width }
+        ensures width { result.width ≡ width }
+        ensures places { places result ≡ places self ++ replicate (width - self.width) 0 }
+    {
+        self.extended(width, Diagram::FALSE)
+    }
+
+    /// The new places on top are the top bit, with its mark.
+    pub fn sign_extend(self, width: usize) -> Row
+        requires narrow { width ≤ 32 }
+        requires inside { self.width ≤ width }
+        requires some { 1 ≤ self.width }
+        ensures width { result.width ≡ width }
+        ensures places { places result ≡ places self ++ replicate (width - self.width) (get_or (places self) (self.width - 1) 0) }
+    {
+        self.extended(width, self.place(self.width - 1))
+    }
 }

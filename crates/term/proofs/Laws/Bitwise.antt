@@ -1,8 +1,8 @@
--- The operations that go place by place: the code's loop over the places, and document 01's operations by name.
+-- The operations that go place by place: the code's loop over the places, and the definition's operations by name.
 --
---   Going          what the loop has done after some places: going_start, going_next, going_done
---   going_known    what the next bit requires
---   makes_not, ..  what `work` does is the operation's work
+--   Going          what the loop has done after some places: going_start, going_next, going_fails, going_done
+--   going_known    what the next bit requires, with going_ready and going_condition
+--   works_not, ..  what `work` does is the operation's work
 use Prim.Native.Nat.{ℕ, zero, suc, ◌+◌, ◌≤◌, ◌<◌}
 use native.Mathlib.Nat.{not-suc-le-zero}
 use native.Mathlib.Numerals.{add-one}
@@ -11,20 +11,24 @@ use mathlib.Core.Path.{◌≡◌, refl, sym, ap, ◌∙◌}
 use mathlib.Core.Bool.{Bool, true, false}
 use mathlib.Core.List.{List, [], ◌∷◌, ◌++◌, append-nil, append_assoc}
 use lib.Dec.{eqb}
-use lib.ListN.{length, get_or, set, take, replicate, length-set, length-replicate, get_or-replicate, get_or-append}
+use lib.ListN.{length, get_or, set, take, drop, replicate, length-set, length-replicate, get_or-replicate, get_or-append}
 use lib.Seq.{take_all, length-take-le, get_or_at, get_or-set_same, get_or-set_other}
 use borrow.Author.Tests.{eqb-true, eqb-false}
+use Rattle.std.specs.Prelude.{Result, Ok, Err}
 use Rattle.meaning.specs.Diagram.{Tree}
 use Rattle.meaning.specs.Step.{Work, unused}
 use Rattle.meaning.specs.Row
 use Rattle.meaning.specs.Row.{Bit, known, unknown, each_bit, both_bits, not_bit, and_bit}
 use Rattle.meaning.specs.Lent.{tree_of}
-use Rattle.diagram.specs.State.{Alive, Known, After}
+use Rattle.diagram.specs.State.{Ready, Known, After, Does, Works}
 use Rattle.diagram.specs.declared.builder.Builder.{Builder}
+use Rattle.diagram.specs.declared.builder.Made.{Made}
+use Rattle.diagram.specs.declared.builder.NoRoom.{NoRoom}
+use Rattle.diagram.specs.declared.scratch.Scratch.{Scratch}
 use Rattle.diagram.proofs.Laws.Parts.{tree_stands}
-use Rattle.diagram.proofs.Laws.After.{after_nothing, after_then, after_alive, after_known}
-use Rattle.term.specs.Row.{BitKnown, RowMeans, RowKnown, Makes}
-use Rattle.term.specs.Bit.{bit_of, BitMeans, BitMade, Under, UnderKnown}
+use Rattle.diagram.proofs.Laws.After.{after_nothing, after_then, after_known, lacks_more, lacks_then}
+use Rattle.term.specs.Row.{BitKnown, BitMeans, RowMeans, RowKnown}
+use Rattle.term.specs.Bit.{bit_of, Under, UnderKnown}
 use Rattle.term.specs.declared.row.Row as Declared
 use Rattle.term.specs.declared.bitwise.Operation.{Operation}
 use Rattle.term.specs.declared.bitwise.Operation.TheVariants.{Not, And, Or, Xor, Choose}
@@ -51,6 +55,19 @@ module _ (f : Bit → Bit → Work Bit) where
       let rest = both_more r s i (omega arith) (omega arith) in
       rw rest (simp (append-nil, append_assoc))
 
+  both_none : (r : Row.Row) → [] ≡ (both_bits f r []).steps
+  both_none [] = refl
+  both_none (a ∷ r) = refl
+
+  -- the places up to one, then the rest
+  both_split : (k : ℕ) (r s : Row.Row)
+      → (both_bits f r s).steps
+      ≡ (both_bits f (take k r) (take k s)).steps ++ (both_bits f (drop k r) (drop k s)).steps
+  both_split zero r s = refl
+  both_split (suc k) [] s = refl
+  both_split (suc k) (a ∷ r) [] = both_none (drop k r)
+  both_split (suc k) (a ∷ r) (c ∷ s) = rw (both_split k r s) (simp (append_assoc, append-nil))
+
 -- of one row alone
 both_each : (f : Bit → Bit → Work Bit) (g : Bit → Work Bit) (r s : Row.Row) → length s ≡ length r
     → ((i : ℕ) → i < length r → f (get_or r i unknown) (get_or s i unknown) ≡ g (get_or r i unknown))
@@ -66,97 +83,95 @@ both_each f g (a ∷ r) (c ∷ s) e is =
 
 -- some diagrams that its numbers stand for
 abbrev must_of : List ℕ → Operation → Tree
-must_of cells Not = unused
-must_of cells And = unused
-must_of cells Or = unused
-must_of cells Xor = unused
 must_of cells (Choose m k) = tree_of cells m
+must_of cells op = unused
 
 abbrev may_of : List ℕ → Operation → Tree
-may_of cells Not = unused
-may_of cells And = unused
-may_of cells Or = unused
-may_of cells Xor = unused
 may_of cells (Choose m k) = tree_of cells k
+may_of cells op = unused
 
-tree_means : {cells w : List ℕ} {b : Builder} → Alive cells w b → (a : ℕ) → Known b a
+tree_means : {cells : List ℕ} {s : Scratch} {b : Builder} → Ready cells s b → (a : ℕ) → Known b a
     → BitMeans 128 cells b a (known (tree_of cells a))
-tree_means alive a is =
-    record { is = λ free. let stands = tree_stands (alive free) a (is free) in (stands.is, stands.good) }
+tree_means ready a is = let stands = tree_stands ready a is in (stands.is, stands.good)
 
-under_some : {cells w : List ℕ} {b : Builder} (op : Operation) → Alive cells w b → UnderKnown b op
+under_some : {cells : List ℕ} {s : Scratch} {b : Builder} (op : Operation) → Ready cells s b → UnderKnown b op
     → Under 128 cells b op (must_of cells op) (may_of cells op)
-under_some Not alive is = tt
-under_some And alive is = tt
-under_some Or alive is = tt
-under_some Xor alive is = tt
-under_some (Choose m k) alive is = (tree_means alive m is.0, tree_means alive k is.1)
+under_some Not ready is = tt
+under_some And ready is = tt
+under_some Or ready is = tt
+under_some Xor ready is = tt
+under_some (Choose m k) ready is = (tree_means ready m is.0, tree_means ready k is.1)
 
-module _ {cells w cells' w' : List ℕ} {b b' : Builder} {xs : List Tree} (after : After cells w b xs cells' w' b') where
-  after_bit_means : {n a : ℕ} {p : Bit} → BitMeans n cells b a p → BitMeans n cells' b' a p
-  after_bit_means {n} {a} {p} means = record { is = after_bit after n a p means.is }
-
+module _ {cells cells' : List ℕ} {s' : Scratch} {b b' : Builder} {xs : List Tree} (after : After cells b xs cells' s' b') where
   after_under : (n : ℕ) (op : Operation) (must may : Tree) → Under n cells b op must may → Under n cells' b' op must may
   after_under n Not must may under = tt
   after_under n And must may under = tt
   after_under n Or must may under = tt
   after_under n Xor must may under = tt
-  after_under n (Choose m k) must may under = (after_bit_means under.0, after_bit_means under.1)
+  after_under n (Choose m k) must may under = (
+    after_bit after n m (known must) under.0,
+    after_bit after n k (known may) under.1,
+  )
 
   after_under_known : (op : Operation) → UnderKnown b op → UnderKnown b' op
   after_under_known Not is = tt
   after_under_known And is = tt
   after_under_known Or is = tt
   after_under_known Xor is = tt
-  after_under_known (Choose m k) is = (after_known after is.0, after_known after is.1)
+  after_under_known (Choose m k) is = (after_known after {a = m} is.0, after_known after {a = k} is.1)
 
 -- ---- the loop
 
 -- from state b to state b' the work m of i places was done, and its bits are the first of these numbers
-pub record Front (n : ℕ) (m : Work Row.Row) (cells w : List ℕ) (b : Builder) (i : ℕ) (cells' w' : List ℕ) (b' : Builder)
-    (bits : List ℕ) : Type 0 where
-  pub after : After cells w b m.steps cells' w' b'
+pub record Front (n : ℕ) (m : Work Row.Row) (cells : List ℕ) (b : Builder) (i : ℕ) (cells' : List ℕ) (s' : Scratch)
+    (b' : Builder) (bits : List ℕ) : Type 0 where
+  pub after : After cells b m.steps cells' s' b'
   pub means : (k : ℕ) → k < i → BitMeans n cells' b' (get_or bits k 0) (get_or m.value k unknown)
 
 -- the first i places of x and y were worked on, whatever bits and condition the numbers stand for
-pub record Going (op : Operation) (x y : Declared.Row) (cells w : List ℕ) (b : Builder) (i : ℕ)
-    (cells' w' : List ℕ) (b' : Builder) (bits : List ℕ) : Type 0 where
-  pub within : i ≤ x.width
+pub record Going (op : Operation) (x y : Declared.Row) (cells : List ℕ) (b : Builder) (i : ℕ)
+    (cells' : List ℕ) (s' : Scratch) (b' : Builder) (bits : List ℕ) : Type 0 where
   pub long : length bits ≡ 32
   pub made : (n : ℕ) (must may : Tree) (r s : Row.Row) → n ≤ 128 → Under n cells b op must may
       → RowMeans n cells b x r → RowMeans n cells b y s
-      → Front n (both_bits (bit_of n op must may) (take i r) (take i s)) cells w b i cells' w' b' bits
+      → Front n (both_bits (bit_of n op must may) (take i r) (take i s)) cells b i cells' s' b' bits
 
 -- what `bit` promises
-abbrev pub Bits : Operation → List ℕ → List ℕ → Builder → ℕ → ℕ → List ℕ → List ℕ → Builder → ℕ → Type 0
-Bits op cells w b x y cells' w' b' r =
+abbrev pub BitWorks : Operation → List ℕ → Builder → ℕ → ℕ → List ℕ → Scratch → Result (Made ℕ) NoRoom → Type 0
+BitWorks op cells b x y cells' s' result =
     (n : ℕ) (must may : Tree) (p q : Bit) → n ≤ 128 → Under n cells b op must may → BitMeans n cells b x p
-    → BitMeans n cells b y q → BitMade n cells w b (bit_of n op must may p q) cells' w' b' r
+    → BitMeans n cells b y q → Works (BitMeans n) cells b (bit_of n op must may p q) cells' s' result
 
-pub going_start : {op : Operation} {x y : Declared.Row} {cells w : List ℕ} {b : Builder} {bits : List ℕ}
-    → Alive cells w b → length bits ≡ 32 → Going op x y cells w b 0 cells w b bits
-going_start {cells} {w} {b} alive long =
+-- what `work` promises
+abbrev pub RowsWork : Operation → Declared.Row → Declared.Row → List ℕ → Builder → List ℕ → Scratch
+    → Result (Made Declared.Row) NoRoom → Type 0
+RowsWork op x y cells b cells' s' result =
+    (n : ℕ) (must may : Tree) (q r : Row.Row) → n ≤ 128 → Under n cells b op must may → RowMeans n cells b x q
+    → RowMeans n cells b y r → Works (RowMeans n) cells b (both_bits (bit_of n op must may) q r) cells' s' result
+
+pub going_start : {op : Operation} {x y : Declared.Row} {cells : List ℕ} {s : Scratch} {b : Builder} {bits : List ℕ}
+    → Ready cells s b → length bits ≡ 32 → Going op x y cells b 0 cells s b bits
+going_start ready long =
     record {
-      within = omega arith;
       long = long;
-      made = λ n must may r s le under means_x means_y.
-          record { after = after_nothing cells w b alive; means = λ k below. absurd (not-suc-le-zero below) };
+      made = λ n must may q r le under means_x means_y.
+          record { after = after_nothing ready; means = λ k below. absurd (not-suc-le-zero below) };
     }
 
-front_next : {n i a : ℕ} {cells w c₁ w₁ c₂ w₂ : List ℕ} {b b₁ b₂ : Builder} {bits : List ℕ}
+front_next : {n i : ℕ} {cells c₁ c₂ : List ℕ} {s₁ s₂ : Scratch} {b b₁ : Builder} {bits : List ℕ} {made : Made ℕ}
     (f : Bit → Bit → Work Bit) (r s : Row.Row) → i < length r → i < length s → i < length bits
-    → Front n (both_bits f (take i r) (take i s)) cells w b i c₁ w₁ b₁ bits
-    → BitMade n c₁ w₁ b₁ (f (get_or r i unknown) (get_or s i unknown)) c₂ w₂ b₂ a
-    → Front n (both_bits f (take (suc i) r) (take (suc i) s)) cells w b (suc i) c₂ w₂ b₂ (set bits i a)
-front_next {n} {i} {a} {c₂} {b₂} {bits} f r s in_r in_s in_bits front bit =
+    → Front n (both_bits f (take i r) (take i s)) cells b i c₁ s₁ b₁ bits
+    → Does (BitMeans n) c₁ b₁ (f (get_or r i unknown) (get_or s i unknown)) c₂ s₂ made
+    → Front n (both_bits f (take (suc i) r) (take (suc i) s)) cells b (suc i) c₂ s₂ made.at (set bits i made.value)
+front_next {n} {i} {c₂ = c₂} {bits = bits} {made = made} f r s in_r in_s in_bits front bit =
     rw (both_more f r s i in_r in_s)
     (record { after = after_then front.after bit.after; means = λ k below. go k below (eqb k i) refl })
   where
     values : Row.Row
     values = (both_bits f (take i r) (take i s)).value
 
-    made : Bit
-    made = (f (get_or r i unknown) (get_or s i unknown)).value
+    last : Bit
+    last = (f (get_or r i unknown) (get_or s i unknown)).value
 
     values_long : length values ≡ i
     values_long =
@@ -164,121 +179,133 @@ front_next {n} {i} {a} {c₂} {b₂} {bits} f r s in_r in_s in_bits front bit =
         ∙ length-take-le i r (omega arith)
 
     go : (k : ℕ) → k < suc i → (e : Bool) → eqb k i ≡ e
-        → BitMeans n c₂ b₂ (get_or (set bits i a) k 0) (get_or (values ++ (made ∷ [])) k unknown)
+        → BitMeans n c₂ made.at (get_or (set bits i made.value) k 0) (get_or (values ++ (last ∷ [])) k unknown)
     go k below true is =
-        rw (eqb-true k i is, get_or-set_same bits i a 0 in_bits, get_or_at values made [] unknown i values_long) bit.means
+        rw (eqb-true k i is, get_or-set_same bits i made.value 0 in_bits, get_or_at values last [] unknown i values_long)
+        bit.means
     go k below false is =
         let other : k ≡ i → ⊥ = eqb-false k i is in
         let lower : k < i = omega arith in
-        rw (get_or-set_other bits i k a 0 other, get_or-append values (made ∷ []) unknown k (omega (arith, values_long)))
-        (after_bit_means bit.after (front.means k lower))
+        rw (
+          get_or-set_other bits i k made.value 0 other,
+          get_or-append values (last ∷ []) unknown k (omega (arith, values_long)),
+        )
+        (after_bit bit.after n (get_or bits k 0) (get_or values k unknown) (front.means k lower))
 
-pub going_next : {op : Operation} {x y : Declared.Row} {cells w c₁ w₁ c₂ w₂ : List ℕ} {b b₁ b₂ : Builder}
-    {bits : List ℕ} {i a : ℕ} → x.width ≡ y.width → x.width ≤ 32 → i < x.width → Going op x y cells w b i c₁ w₁ b₁ bits
-    → Bits op c₁ w₁ b₁ (get_or x.bits i 0) (get_or y.bits i 0) c₂ w₂ b₂ a
-    → Going op x y cells w b (i + 1) c₂ w₂ b₂ (set bits i a)
-going_next {op} {x} {y} {cells} {b} {bits} {i} {a} same narrow below going bit =
-    rw (add-one i)
-    (record {
-      within = below;
-      long = length-set bits i a ∙ going.long;
-      made = λ n must may r s le under means_x means_y.
-          let front = going.made n must may r s le under means_x means_y in
-          let after = front.after in
-          let at_x : BitMeans n cells b (get_or x.bits i 0) (get_or r i unknown) =
-          record { is = λ free. means_x.bits free i below } in
-          let at_y : BitMeans n cells b (get_or y.bits i 0) (get_or s i unknown) =
-          record { is = λ free. means_y.bits free i (omega arith) } in
-          front_next (bit_of n op must may) r s (omega (arith, means_x.long)) (omega (arith, means_y.long))
-          (omega (arith, going.long)) front
-          (bit n must may (get_or r i unknown) (get_or s i unknown) le (after_under after n op must may under)
-          (after_bit_means after at_x) (after_bit_means after at_y));
-    })
+-- what two rows' next bits stand for in the state that the loop has reached
+module _ {op : Operation} {x y : Declared.Row} {cells c₁ : List ℕ} {s₁ : Scratch} {b b₁ : Builder} {bits : List ℕ} {i : ℕ}
+    (same : x.width ≡ y.width) (below : i < x.width) (going : Going op x y cells b i c₁ s₁ b₁ bits) where
+  module _ {n : ℕ} (must may : Tree) {q r : Row.Row} (le : n ≤ 128) (under : Under n cells b op must may)
+      (means_x : RowMeans n cells b x q) (means_y : RowMeans n cells b y r) where
+    front : Front n (both_bits (bit_of n op must may) (take i q) (take i r)) cells b i c₁ s₁ b₁ bits
+    front = going.made n must may q r le under means_x means_y
 
-pub going_done : {op : Operation} {x y : Declared.Row} {cells w cells' w' : List ℕ} {b b' : Builder} {bits : List ℕ}
-    {i : ℕ} → x.width ≡ y.width → x.width ≤ i → Going op x y cells w b i cells' w' b' bits
-    → (n : ℕ) (must may : Tree) (r s : Row.Row) → n ≤ 128 → Under n cells b op must may
-    → RowMeans n cells b x r → RowMeans n cells b y s
-    → Makes n cells w b (both_bits (bit_of n op must may) r s) cells' w' b' (record { bits = bits; width = x.width })
-going_done {op} {x} {y} {i} same end going n must may r s le under means_x means_y =
-    let front = going.made n must may r s le under means_x means_y in
+    bit_works : (c₂ : List ℕ) (s₂ : Scratch) (result : Result (Made ℕ) NoRoom)
+        → BitWorks op c₁ b₁ (get_or x.bits i 0) (get_or y.bits i 0) c₂ s₂ result
+        → Works (BitMeans n) c₁ b₁ (bit_of n op must may (get_or q i unknown) (get_or r i unknown)) c₂ s₂ result
+    bit_works c₂ s₂ result bit =
+        bit n must may (get_or q i unknown) (get_or r i unknown) le (after_under front.after n op must may under)
+        (after_bit front.after n (get_or x.bits i 0) (get_or q i unknown) (means_x.bits i below))
+        (after_bit front.after n (get_or y.bits i 0) (get_or r i unknown) (means_y.bits i (omega arith)))
+
+  pub going_next : {made : Made ℕ} (c₂ : List ℕ) (s₂ : Scratch) → x.width ≤ 32
+      → BitWorks op c₁ b₁ (get_or x.bits i 0) (get_or y.bits i 0) c₂ s₂ (Ok made)
+      → Going op x y cells b (i + 1) c₂ s₂ made.at (set bits i made.value)
+  going_next {made} c₂ s₂ narrow bit =
+      rw (add-one i)
+      (record {
+        long = length-set bits i made.value ∙ going.long;
+        made = λ n must may q r le under means_x means_y.
+            front_next (bit_of n op must may) q r (omega (arith, means_x.long)) (omega (arith, means_y.long))
+            (omega (arith, going.long)) (front must may le under means_x means_y)
+            (bit_works must may le under means_x means_y c₂ s₂ (Ok made) bit);
+      })
+
+  -- no room for the next bit is none for the rows
+  pub going_fails : (c₂ : List ℕ) (s₂ : Scratch) (e : NoRoom)
+      → BitWorks op c₁ b₁ (get_or x.bits i 0) (get_or y.bits i 0) c₂ s₂ (Err e) → RowsWork op x y cells b c₂ s₂ (Err e)
+  going_fails c₂ s₂ e bit n must may q r le under means_x means_y =
+      let f = bit_of n op must may in
+      let next = both_more f q r i (omega (arith, means_x.long)) (omega (arith, means_y.long)) in
+      let lacks = lacks_then (front must may le under means_x means_y).after (bit_works must may le under means_x means_y c₂ s₂ (Err e) bit) in
+      rw (both_split f (suc i) q r, next) (lacks_more (both_bits f (drop (suc i) q) (drop (suc i) r)).steps lacks)
+
+  -- what the next bit requires
+  module _ {s : Scratch} (ready : Ready cells s b) (condition : UnderKnown b op) (known : RowKnown b x × RowKnown b y) where
+    some : Front 128 (both_bits (bit_of 128 op (must_of cells op) (may_of cells op)) (take i (row_of cells x))
+        (take i (row_of cells y))) cells b i c₁ s₁ b₁ bits
+    some = front (must_of cells op) (may_of cells op) (omega arith) (under_some op ready condition) (row_some ready known.0) (row_some ready known.1)
+
+    pub going_ready : Ready c₁ s₁ b₁
+    going_ready = some.after.ready
+
+    pub going_condition : UnderKnown b₁ op
+    going_condition = after_under_known some.after op condition
+
+    pub going_known : BitKnown b₁ (get_or x.bits i 0) × BitKnown b₁ (get_or y.bits i 0)
+    going_known = (
+      after_bit_known some.after (get_or x.bits i 0) (known.0.each i below),
+      after_bit_known some.after (get_or y.bits i 0) (known.1.each i (omega arith)),
+    )
+
+pub going_done : {op : Operation} {x y : Declared.Row} {cells cells' : List ℕ} {s' : Scratch} {b b' : Builder}
+    {bits : List ℕ} {i : ℕ} → x.width ≡ y.width → x.width ≤ i → Going op x y cells b i cells' s' b' bits
+    → RowsWork op x y cells b cells' s' (Ok (record { at = b'; value = record { bits = bits; width = x.width } }))
+going_done {op} {x} {y} {i = i} same end going n must may q r le under means_x means_y =
+    let front = going.made n must may q r le under means_x means_y in
     let f = bit_of n op must may in
-    let all_r : take i r ≡ r = take_all i r (omega (arith, means_x.long)) in
-    let all_s : take i s ≡ s = take_all i s (omega (arith, means_y.long)) in
+    let all_q : take i q ≡ q = take_all i q (omega (arith, means_x.long)) in
+    let all_r : take i r ≡ r = take_all i r (omega (arith, means_y.long)) in
     record {
-      after = rw (all_r, all_s) at front.after;
+      after = rw (all_q, all_r) at front.after;
       means =
           record {
-            long = both_length f r s (means_x.long ∙ same ∙ sym means_y.long) ∙ means_x.long;
+            long = both_length f q r (means_x.long ∙ same ∙ sym means_y.long) ∙ means_x.long;
             narrow = means_x.narrow;
-            bits = λ free k below. (rw (all_r, all_s) at (front.means k (omega arith))).is free;
+            bits = λ k below. rw (all_q, all_r) at (front.means k (omega arith));
           };
     }
 
--- what the next bit requires
-pub going_known : {op : Operation} {x y : Declared.Row} {cells w cells' w' : List ℕ} {b b' : Builder} {bits : List ℕ}
-    {i : ℕ} → Alive cells w b → UnderKnown b op → RowKnown b x → RowKnown b y → x.width ≡ y.width → i < x.width
-    → Going op x y cells w b i cells' w' b' bits
-    → Alive cells' w' b' × (UnderKnown b' op × (BitKnown b' (get_or x.bits i 0) × BitKnown b' (get_or y.bits i 0)))
-going_known {op} {x} {y} {cells} {i} alive condition known_x known_y same below going =
-    let after =
-    (going.made 128 (must_of cells op) (may_of cells op) (row_of cells x) (row_of cells y) (omega arith)
-    (under_some op alive condition) (row_some alive known_x) (row_some alive known_y)).after in (
-      after_alive after,
-      (
-        after_under_known after op condition,
-        (
-          after_bit_known after (get_or x.bits i 0) (known_x.each i below),
-          after_bit_known after (get_or y.bits i 0) (known_y.each i (omega arith)),
-        ),
-      ),
-    )
-
 -- ---- the operations by name
 
--- what `work` promises
-abbrev pub Works : Operation → Declared.Row → Declared.Row → List ℕ → List ℕ → Builder → List ℕ → List ℕ → Builder
-    → Declared.Row → Type 0
-Works op x y cells w b cells' w' b' row =
-    (n : ℕ) (must may : Tree) (r s : Row.Row) → n ≤ 128 → Under n cells b op must may → RowMeans n cells b x r
-    → RowMeans n cells b y s → Makes n cells w b (both_bits (bit_of n op must may) r s) cells' w' b' row
-
-module _ {n : ℕ} {x y row : Declared.Row} {cells w cells' w' : List ℕ} {b b' : Builder} (le : n ≤ 128) where
-  pub makes_and : {r s : Row.Row} → Works And x y cells w b cells' w' b' row → RowMeans n cells b x r
-      → RowMeans n cells b y s → Makes n cells w b (Row.bit_and n r s) cells' w' b' row
+module _ {n : ℕ} {x y : Declared.Row} {cells : List ℕ} {b : Builder} (cells' : List ℕ) (s' : Scratch)
+    (result : Result (Made Declared.Row) NoRoom) (le : n ≤ 128) where
+  pub works_and : {q r : Row.Row} → RowMeans n cells b x q → RowMeans n cells b y r
+      → RowsWork And x y cells b cells' s' result → Works (RowMeans n) cells b (Row.bit_and n q r) cells' s' result
   unfolding Row.bit_and
-  makes_and {r} {s} works means_x means_y = works n unused unused r s le tt means_x means_y
+  works_and {q} {r} means_x means_y rows = rows n unused unused q r le tt means_x means_y
 
-  pub makes_or : {r s : Row.Row} → Works Or x y cells w b cells' w' b' row → RowMeans n cells b x r
-      → RowMeans n cells b y s → Makes n cells w b (Row.bit_or n r s) cells' w' b' row
+  pub works_or : {q r : Row.Row} → RowMeans n cells b x q → RowMeans n cells b y r
+      → RowsWork Or x y cells b cells' s' result → Works (RowMeans n) cells b (Row.bit_or n q r) cells' s' result
   unfolding Row.bit_or
-  makes_or {r} {s} works means_x means_y = works n unused unused r s le tt means_x means_y
+  works_or {q} {r} means_x means_y rows = rows n unused unused q r le tt means_x means_y
 
-  pub makes_xor : {r s : Row.Row} → Works Xor x y cells w b cells' w' b' row → RowMeans n cells b x r
-      → RowMeans n cells b y s → Makes n cells w b (Row.bit_xor n r s) cells' w' b' row
+  pub works_xor : {q r : Row.Row} → RowMeans n cells b x q → RowMeans n cells b y r
+      → RowsWork Xor x y cells b cells' s' result → Works (RowMeans n) cells b (Row.bit_xor n q r) cells' s' result
   unfolding Row.bit_xor
-  makes_xor {r} {s} works means_x means_y = works n unused unused r s le tt means_x means_y
+  works_xor {q} {r} means_x means_y rows = rows n unused unused q r le tt means_x means_y
 
-  pub makes_choose : {m k : ℕ} {must may : Tree} {r s : Row.Row} → Works (Choose m k) x y cells w b cells' w' b' row
-      → BitMeans n cells b m (known must) → BitMeans n cells b k (known may) → RowMeans n cells b x r
-      → RowMeans n cells b y s → Makes n cells w b (Row.choose n must may r s) cells' w' b' row
+  pub works_choose : {q r : Row.Row} (m k : ℕ) (must may : Tree) → RowMeans n cells b x q → RowMeans n cells b y r
+      → BitMeans n cells b m (known must) → BitMeans n cells b k (known may)
+      → RowsWork (Choose m k) x y cells b cells' s' result
+      → Works (RowMeans n) cells b (Row.choose n must may q r) cells' s' result
   unfolding Row.choose
-  makes_choose {must} {may} {r} {s} works is_must is_may means_x means_y =
-      works n must may r s le (is_must, is_may) means_x means_y
+  works_choose {q} {r} m k must may means_x means_y is_must is_may rows =
+      rows n must may q r le (is_must, is_may) means_x means_y
 
   -- both operands stand for the one row
-  pub makes_not : {r : Row.Row} → Works Not x y cells w b cells' w' b' row → RowMeans n cells b x r
-      → RowMeans n cells b y r → Makes n cells w b (Row.bit_not n r) cells' w' b' row
+  pub works_not : {r : Row.Row} → RowMeans n cells b x r → RowMeans n cells b y r
+      → RowsWork Not x y cells b cells' s' result → Works (RowMeans n) cells b (Row.bit_not n r) cells' s' result
   unfolding Row.bit_not
-  makes_not {r} works means_x means_y =
+  works_not {r} means_x means_y rows =
       rw (both_each (λ a c. not_bit n a) (not_bit n) r r refl (λ i below. refl))
-      at (works n unused unused r r le tt means_x means_y)
+      at (rows n unused unused r r le tt means_x means_y)
 
   -- a row and one bit: the bit in every place
-  pub makes_each : {r : Row.Row} (c : Bit) → Works And x y cells w b cells' w' b' row → RowMeans n cells b x r
-      → RowMeans n cells b y (replicate (length r) c)
-      → Makes n cells w b (each_bit (λ a. and_bit n a c) r) cells' w' b' row
-  makes_each {r} c works means_x means_y =
+  pub works_each : {r : Row.Row} (c : Bit) → RowMeans n cells b x r → RowMeans n cells b y (replicate (length r) c)
+      → RowsWork And x y cells b cells' s' result
+      → Works (RowMeans n) cells b (each_bit (λ a. and_bit n a c) r) cells' s' result
+  works_each {r} c means_x means_y rows =
       rw (both_each (and_bit n) (λ a. and_bit n a c) r (replicate (length r) c) (length-replicate (length r) c)
       (λ i below. ap (and_bit n (get_or r i unknown)) (get_or-replicate (length r) i c unknown below)))
-      at (works n unused unused r (replicate (length r) c) le tt means_x means_y)
+      at (rows n unused unused r (replicate (length r) c) le tt means_x means_y)

@@ -2,12 +2,12 @@
 --
 --   tallies_..   what is counted stays so when the table grows and when there is one sum bit more
 --   Walk         the loop: the first i sum bits are counted, or they are more than the limit
---   exceeds_..   whether they exceed the limit, a law for each path of the code
+--   told_..      whether they exceed the limit, a law for each path of the code
 use Prim.Native.Nat.{ℕ, zero, suc, ◌+◌, ◌*◌, ◌/◌, ◌≤◌, ◌<◌}
 use native.Mathlib.Omega.{arith}
 use native.Mathlib.Numerals.{add-one}
 use mathlib.Core.Path.{◌≡◌, refl, sym, subst, ◌∙◌}
-use mathlib.Core.Bool.{Bool, true, false, true≢false}
+use mathlib.Core.Bool.{Bool, true, false}
 use mathlib.Core.List.{List, [], ◌∷◌}
 use lib.Dec.{ltb}
 use lib.ListN.{length, get_or, set, take}
@@ -20,11 +20,13 @@ use Rattle.meaning.specs.Row.{counted}
 use Rattle.meaning.specs.Lent.{tree_of}
 use Rattle.meaning.proofs.Laws.Table.{Is, Single, Ext, There, is_ext, is_one, count_le, enter_grows}
 use Rattle.meaning.proofs.Laws.Table.{enter_all_append, enter_all_ext}
-use Rattle.diagram.specs.State.{nodes, nodes_of, Alive, Known, After}
-use Rattle.diagram.specs.Count.{Unmarked, Counted, Tallied, Visitable, Visited}
+use Rattle.diagram.specs.Table.{nodes_of}
+use Rattle.diagram.specs.State.{nodes, Ready, Known, After}
+use Rattle.diagram.specs.Count.{Counted, Tallied, Visitable, Visited}
 use Rattle.diagram.specs.declared.builder.Builder.{Builder}
+use Rattle.diagram.specs.declared.scratch.Scratch.{Scratch}
 use Rattle.diagram.proofs.Laws.Nodes.{nodes_of_length}
-use Rattle.diagram.proofs.Laws.After.{after_free}
+use Rattle.diagram.proofs.Laws.After.{ready_room}
 use Rattle.diagram.proofs.Laws.Parts.{tree_stands}
 use Rattle.diagram.proofs.Laws.Count.{counted_none, counted_grown}
 use Rattle.term.specs.Add.{Numbered, Tallies, Clears, Countable, Exceeds, Told}
@@ -40,36 +42,33 @@ tallies_none cells marks b limit bits =
       inside = omega arith;
       fits = omega arith;
       none = λ _. refl;
-      marked = λ free some. absurd (omega arith);
+      marked = λ some. absurd (omega arith);
     }
 
 -- the table may grow: numbers keep their diagrams, and new slots aren't marked
-pub tallies_after : {cells w cells' w' marks : List ℕ} {b b' : Builder} {xs : List Tree} {limit : ℕ} {bits : List ℕ}
+pub tallies_after : {cells cells' marks : List ℕ} {s s' : Scratch} {b b' : Builder} {xs : List Tree} {limit : ℕ} {bits : List ℕ}
     {k : ℕ} {r : Tally}
-    → After cells w b xs cells' w' b' → Alive cells w b → ((i : ℕ) → i < k → Known b (get_or bits i 0))
+    → After cells b xs cells' s' b' → Ready cells s b → ((i : ℕ) → i < k → Known b (get_or bits i 0))
     → Tallies cells marks b limit bits k r → Tallies cells' marks b' limit bits k r
-tallies_after {cells} {cells' = cells'} {b = b} {b' = b'} {xs = xs} {bits = bits} after alive each tallies =
+tallies_after {cells} {cells' = cells'} {b = b} {b' = b'} {xs = xs} {bits = bits} after ready each tallies =
     record {
       inside = tallies.inside;
       fits = tallies.fits;
       none = tallies.none;
-      marked = λ free some ts long is.
-          let before = after_free after free in
-          let ready = alive before in
+      marked = λ some ts long is.
           let inside = tallies.inside in
           let ext : Ext (nodes cells b) (nodes cells' b') =
-          rw (after.entered free) (enter_all_ext xs (nodes cells b)) in
+          rw after.entered (enter_all_ext xs (nodes cells b)) in
           let same : Numbered (nodes cells b) bits ts =
           λ j below.
           let a = get_or bits j 0 in
-          let stands = tree_stands ready a (each j (omega arith) before) in
+          let stands = tree_stands ready a (each j (omega arith)) in
           let one =
           is_one (tree_of cells a) (get_or ts j unused) (nodes cells' b') a
           (is_ext (tree_of cells a) a ext stands.is) (is j below) in
           subst (Is (nodes cells b) a) one stands.is in
-          let covers : length (nodes cells' b') ≤ length cells / 3 =
-          omega (arith, nodes_of_length cells' b'.used, (after.ready free).room, after.kept) in
-          rw after.kept (counted_grown ext covers (tallies.marked before some ts long same));
+          let covers = ready_room after.ready in
+          rw after.kept (counted_grown ext (rw after.kept at covers) (tallies.marked some ts long same));
     }
 
 -- one number more
@@ -80,44 +79,30 @@ tallies_more {cells} {b = b} {bits = bits} k a tallies =
       inside = omega (arith, tallies.inside);
       fits = tallies.fits;
       none = tallies.none;
-      marked = λ free some ts long is.
+      marked = λ some ts long is.
           let inside = tallies.inside in
           let before : Numbered (nodes cells b) bits ts =
           λ j below. rw (get_or-set_other bits k j a 0 (λ e. omega arith)) at (is j below) in
-          tallies.marked free some ts long before;
+          tallies.marked some ts long before;
     }
-
--- ---- the marks
-
-module _ (cells : List ℕ) (counted : ℕ) where
-  pub clears_none : (marks : List ℕ) → 0 < counted → Clears cells counted marks marks
-  clears_none marks some = record { stays = λ _. refl; clear = λ none. absurd (omega arith) }
-
-  pub clears_all : (marks : List ℕ) {marks' : List ℕ} {room : ℕ} → counted ≤ 0 → room ≡ length cells / 3
-      → Unmarked room marks' → Clears cells counted marks marks'
-  clears_all marks none slots clear =
-      record { stays = λ some. absurd (omega arith); clear = λ _. rw slots at clear }
 
 -- ---- the loop
 
 -- i of k sum bits have been visited
-pub record Walk (cells : List ℕ) (used limit : ℕ) (bits : List ℕ) (k : ℕ) (marks₀ marks : List ℕ)
-    (so_far i : ℕ) : Type 0 where
+pub record Walk (cells : List ℕ) (used limit : ℕ) (bits : List ℕ) (k : ℕ) (marks : List ℕ) (so_far i : ℕ) : Type 0 where
   pub inside : i ≤ k
   pub none : i ≡ 0 → so_far ≡ 0
-  pub same : length marks ≡ length marks₀
   pub tallied : (sums : List Tree) → length sums ≡ k → Numbered (nodes_of cells used) bits sums
       → Tallied (length cells / 3) (nodes_of cells used) limit marks so_far (enter_all (take i sums) [])
 
-module _ {cells : List ℕ} {used limit : ℕ} {bits : List ℕ} {k : ℕ} {marks₀ : List ℕ} where
+module _ {cells : List ℕ} {used limit : ℕ} {bits : List ℕ} {k : ℕ} where
   pub walk_next : {marks : List ℕ} {so_far i : ℕ} {after : List ℕ} {r : ℕ} → Single (nodes_of cells used)
-      → Walk cells used limit bits k marks₀ marks so_far i → i < k → length after ≡ length marks
-      → Visited cells marks (get_or bits i 0) so_far limit after r → Walk cells used limit bits k marks₀ after r (i + 1)
-  walk_next {marks} {so_far} {i} {after} {r} single walk more kept visited =
+      → Walk cells used limit bits k marks so_far i → i < k
+      → Visited cells marks (get_or bits i 0) so_far limit after r → Walk cells used limit bits k after r (i + 1)
+  walk_next {marks} {so_far} {i} {after} {r} single walk more visited =
       record {
         inside = omega arith;
         none = λ e. absurd (omega arith);
-        same = kept ∙ walk.same;
         tallied = λ sums long is.
             let x = get_or sums i unused in
             let C = enter_all (take i sums) [] in
@@ -139,12 +124,11 @@ module _ {cells : List ℕ} {used limit : ℕ} {bits : List ℕ} {k : ℕ} {mark
       go x C is so false fits =
           visited.tallied (length cells / 3) used C x single is (so.within (ltb-false limit so_far fits))
 
-  module _ {marks : List ℕ} {so_far i : ℕ} (walk : Walk cells used limit bits k marks₀ marks so_far i)
-      (end : k ≤ i) where
+  module _ {marks : List ℕ} {so_far : ℕ} (walk : Walk cells used limit bits k marks so_far k) where
     -- all of them
     walk_whole : (sums : List Tree) → length sums ≡ k → Numbered (nodes_of cells used) bits sums
         → Tallied (length cells / 3) (nodes_of cells used) limit marks so_far (enter_all sums [])
-    walk_whole sums long is = rw (take_all i sums (omega arith)) at (walk.tallied sums long is)
+    walk_whole sums long is = rw (take_all k sums (omega arith)) at (walk.tallied sums long is)
 
     walk_all : (carry : Tree) (sums : List Tree) → length sums ≡ k → Numbered (nodes_of cells used) bits sums
         → ltb limit so_far ≡ ltb limit (count (counted sums carry))
@@ -163,15 +147,31 @@ module _ {cells : List ℕ} {used limit : ℕ} {bits : List ℕ} {k : ℕ} {mark
 -- ---- the paths
 
 module _ {cells : List ℕ} {b : Builder} {limit : ℕ} {bits : List ℕ} {k : ℕ} where
-  pub exceeds_full : b.full ≡ true → Exceeds cells b limit bits k true
-  exceeds_full full = record { counts = λ n carry sums free. absurd (true≢false (sym full ∙ free)) }
-
   module _ {marks : List ℕ} {r : Tally} (told : Told cells marks b limit bits k r) where
     pub exceeds_over : limit < r.nodes → Exceeds cells b limit bits k true
     exceeds_over over = rw (lt-ltb limit r.nodes over) at told.exceeds
 
     pub exceeds_not : r.nodes ≤ limit → Exceeds cells b limit bits k false
     exceeds_not fits = rw (le-ltb limit r.nodes fits) at told.exceeds
+
+  -- all of them were counted
+  pub told_counted : {marks' : List ℕ} {so_far : ℕ} → Walk cells b.used limit bits k marks' so_far k
+      → Told cells marks' b limit bits k (record { bits = k; nodes = so_far })
+  told_counted walk =
+      record {
+        exceeds =
+            record {
+              counts = λ n carry sums long means.
+                  walk_all walk carry sums long (λ j inside. (means.each j inside).is);
+            };
+        tallies = λ fits.
+            record {
+              inside = omega arith;
+              fits = fits;
+              none = walk.none;
+              marked = λ some ts long is. (walk_whole walk ts long is).within fits;
+            };
+      }
 
   module _ {marks : List ℕ} {r : Tally} (countable : Countable cells marks b limit bits k r) where
     -- no more slots are used than the limit
@@ -181,8 +181,8 @@ module _ {cells : List ℕ} {b : Builder} {limit : ℕ} {bits : List ℕ} {k : �
         record {
           exceeds =
               record {
-                counts = λ n carry sums free long means.
-                    let held = there sums (λ j. get_or bits j 0) (λ j inside. ((means.each j inside).is free).0) in
+                counts = λ n carry sums long means.
+                    let held = there sums (λ j. get_or bits j 0) (λ j inside. (means.each j inside).is) in
                     let fewer = count_le sums (nodes cells b) countable.laid.single held in
                     le-ltb limit r.nodes countable.tallies.fits
                     ∙ sym (le-ltb limit (count sums) (omega (arith, nodes_of_length cells b.used)));
@@ -201,30 +201,25 @@ module _ {cells : List ℕ} {b : Builder} {limit : ℕ} {bits : List ℕ} {k : �
               rest = there sums (λ j. number (suc j)) (λ j inside. each (suc j) (omega arith));
             }
 
-    -- what clear and visit need
-    pub clear_room : (length cells ≤ 3145728) × (1048576 ≤ 32 * length marks)
-    clear_room = (countable.laid.small, countable.marks_room)
-
-    pub visit_room : {marks₀ marks' : List ℕ} {so_far i : ℕ} → length marks₀ ≡ length marks
-        → Walk cells b.used limit bits k marks₀ marks' so_far i → i < k → Visitable cells marks' (get_or bits i 0)
-    visit_room {i = i} kept walk more =
+    -- what visit needs of so many words
+    pub visit_room : {i words : ℕ} → i < k → 1048576 ≤ 32 * words → Visitable cells words (get_or bits i 0)
+    visit_room {i} more enough =
         let laid = countable.laid in
         record {
           used = b.used;
           room = omega (arith, laid.room);
+          marks_room = omega (arith, laid.room, laid.small);
           falls = laid.falls;
-          marks_room = omega (arith, laid.room, laid.small, countable.marks_room, walk.same);
-          inside = countable.each i more countable.free;
+          inside = countable.each i more;
         }
 
     -- the loop begins with what is counted
     pub walk_start : {marks₀ : List ℕ} → Clears cells r.bits marks marks₀
-        → Walk cells b.used limit bits k marks₀ marks₀ r.nodes r.bits
+        → Walk cells b.used limit bits k marks₀ r.nodes r.bits
     walk_start {marks₀} clears =
         record {
           inside = tallies.inside;
           none = tallies.none;
-          same = refl;
           tallied = λ sums long is.
               record {
                 within = λ _. so sums long is r.bits refl;
@@ -247,26 +242,4 @@ module _ {cells : List ℕ} {b : Builder} {limit : ℕ} {bits : List ℕ} {k : �
             let first : Numbered (nodes cells b) bits (take r.bits sums) =
             λ j below.
             rw (get_or-take r.bits sums j unused (omega arith)) (is j (omega arith)) in
-            rw (clears.stays (omega arith))
-            (tallies.marked countable.free (omega arith) (take r.bits sums) few first)
-
-    -- and ends with all
-    pub told_counted : {marks₀ marks' : List ℕ} {so_far i : ℕ}
-        → Walk cells b.used limit bits k marks₀ marks' so_far i → k ≤ i
-        → Told cells marks' b limit bits k (record { bits = i; nodes = so_far })
-    told_counted {i = i} walk end =
-        let inside = walk.inside in
-        record {
-          exceeds =
-              record {
-                counts = λ n carry sums free long means.
-                    walk_all walk end carry sums long (λ j inside. ((means.each j inside).is free).0);
-              };
-          tallies = λ fits.
-              record {
-                inside = walk.inside;
-                fits = fits;
-                none = walk.none;
-                marked = λ free some ts long is. (walk_whole walk end ts (omega arith) is).within fits;
-              };
-        }
+            rw (clears.stays (omega arith)) (tallies.marked (omega arith) (take r.bits sums) few first)

@@ -1,4 +1,4 @@
--- The builder works over 128 levels and by truth tables, document 01's steps over the sheet's own levels and by functions.
+-- The builder works over 128 levels and by truth tables, the definition's steps over the sheet's own levels and by functions.
 -- Both give the same diagrams.
 --
 --   step_levels, quantify_levels   more levels than a diagram has change nothing

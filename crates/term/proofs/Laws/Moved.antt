@@ -12,13 +12,11 @@ use lib.ListN.{length-append, length-take, length-drop, length-replicate, length
 use lib.Seq.{paste, take_all, get_or-take, length-take-le}
 use Rattle.meaning.specs.Number.{bits, digit}
 use Rattle.meaning.specs.Diagram.{leaf}
-use Rattle.meaning.specs.Table.{Table}
 use Rattle.meaning.specs.Row
 use Rattle.meaning.specs.Row.{Bit, known, unknown, zeros, unknowns, top_bit}
 use Rattle.meaning.proofs.Laws.Number.{bits_length}
-use Rattle.diagram.specs.State.{nodes}
 use Rattle.diagram.specs.declared.builder.Builder.{Builder}
-use Rattle.term.specs.Row.{mark, BitIs, RowMeans, places}
+use Rattle.term.specs.Row.{mark, BitMeans, RowMeans, places}
 use Rattle.term.specs.declared.row.Row as Declared
 use Rattle.term.proofs.Laws.Places.{moved_up}
 
@@ -88,56 +86,56 @@ top_bit_lem (y ∷ r) some =
     let last : length r ≡ suc (length r) - 1 = omega arith in
     top_last unknown y r ∙ ap (λ k. get_or (y ∷ r) k unknown) last
 
-each_zeros : (n : ℕ) (T : Table) (k : ℕ) → Each (BitIs n T) (replicate k 0) (zeros k)
-each_zeros n T k = each_replicate k 0 (known (leaf false)) (refl, tt)
+each_zeros : (n : ℕ) (cells : List ℕ) (b : Builder) (k : ℕ) → Each (BitMeans n cells b) (replicate k 0) (zeros k)
+each_zeros n cells b k = each_replicate k 0 (known (leaf false)) (refl, tt)
 
 module _ {n : ℕ} {cells : List ℕ} {b : Builder} where
   -- of each place RowMeans says what the list of places says
   pub means_places :
-      {row : Declared.Row} {r : List Bit} → RowMeans n cells b row r → b.full ≡ false → (i : ℕ) → i < row.width →
-      BitIs n (nodes cells b) (get_or (places row) i 0) (get_or r i unknown)
-  means_places {row} m room i lt = rw (get_or-take row.width row.bits i 0 lt) (m.bits room i lt)
+      {row : Declared.Row} {r : List Bit} → RowMeans n cells b row r → (i : ℕ) → i < row.width →
+      BitMeans n cells b (get_or (places row) i 0) (get_or r i unknown)
+  means_places {row} m i lt = rw (get_or-take row.width row.bits i 0 lt) (m.bits i lt)
 
   pub means_each :
-      {row : Declared.Row} {r : List Bit} → RowMeans n cells b row r → Whole row → b.full ≡ false →
-      Each (BitIs n (nodes cells b)) (places row) r
-  means_each {row} {r} m whole room =
+      {row : Declared.Row} {r : List Bit} → RowMeans n cells b row r → Whole row →
+      Each (BitMeans n cells b) (places row) r
+  means_each {row} {r} m whole =
       let long : length (places row) ≡ row.width = length-take-le row.width row.bits (omega arith) in
-      each_of (places row) r (omega arith) (λ i lt. means_places m room i (omega arith))
+      each_of (places row) r (omega arith) (λ i lt. means_places m i (omega arith))
 
   pub each_means :
       {row : Declared.Row} {w : ℕ} {l : List ℕ} {r : List Bit} → Holds row w l → w ≤ 32 → length r ≡ w →
-      (b.full ≡ false → Each (BitIs n (nodes cells b)) l r) → RowMeans n cells b row r
+      Each (BitMeans n cells b) l r → RowMeans n cells b row r
   each_means {row} {w} {l} {r} h narrow long each =
       record {
         long = long ∙ sym h.0;
         narrow = omega arith;
-        bits = λ room i lt.
-            rw (← get_or-take row.width row.bits i 0 lt, h.1) (each_at (each room) i (omega arith));
+        bits = λ i lt.
+            rw (← get_or-take row.width row.bits i 0 lt, h.1) (each_at each i (omega arith));
       }
 
   -- ---- rows of one bit, and constants
 
   pub filled_means :
-      {row : Declared.Row} (w a : ℕ) (x : Bit) → w ≤ 32 → (b.full ≡ false → BitIs n (nodes cells b) a x) →
+      {row : Declared.Row} (w a : ℕ) (x : Bit) → w ≤ 32 → BitMeans n cells b a x →
       Holds row w (replicate w a) → RowMeans n cells b row (replicate w x)
   filled_means w a x narrow bit h =
-      each_means h narrow (length-replicate w x) (λ room. each_replicate w a x (bit room))
+      each_means h narrow (length-replicate w x) (each_replicate w a x bit)
 
   pub zeros_means :
       {row : Declared.Row} (w : ℕ) → w ≤ 32 → Holds row w (replicate w 0) → RowMeans n cells b row (zeros w)
-  zeros_means w narrow h = filled_means w 0 (known (leaf false)) narrow (λ room. (refl, tt)) h
+  zeros_means w narrow h = filled_means w 0 (known (leaf false)) narrow (refl, tt) h
 
   pub unknowns_means :
       {row : Declared.Row} (w : ℕ) → w ≤ 32 → Holds row w (replicate w mark) → RowMeans n cells b row (unknowns w)
-  unknowns_means w narrow h = filled_means w mark unknown narrow (λ room. refl) h
+  unknowns_means w narrow h = filled_means w mark unknown narrow refl h
 
   pub constant_means :
       {row : Declared.Row} (w v : ℕ) → w ≤ 32 → Holds row w (map digit (bits w v)) →
       RowMeans n cells b row (Row.constant w v)
   constant_means w v narrow h =
       each_means h narrow (length-map (bits w v) (λ c. known (leaf c)) ∙ bits_length w v)
-      (λ room. each_map digit (λ c. known (leaf c)) (bits w v) (λ c. (refl, tt)))
+      (each_map digit (λ c. known (leaf c)) (bits w v) (λ c. (refl, tt)))
 
   -- ---- one row moved
 
@@ -148,7 +146,7 @@ module _ {n : ℕ} {cells : List ℕ} {b : Builder} where
         RowMeans n cells b row' (zeros k ++ take j r)
     up_means w k j narrow fits le h =
         each_means h narrow (simp (length-append, length-replicate, length-take) (omega arith))
-        (λ room. each_append (each_zeros n (nodes cells b) k) (each_take j (means_each m whole room)))
+        (each_append (each_zeros n cells b k) (each_take j (means_each m whole)))
 
     pub shift_left_means :
         (k : ℕ) → k ≤ row.width → Holds row' row.width (replicate k 0 ++ take (row.width - k) (places row)) →
@@ -161,32 +159,32 @@ module _ {n : ℕ} {cells : List ℕ} {b : Builder} where
         RowMeans n cells b row' (Row.shift_right k r)
     shift_right_means k le h =
         each_means h m.narrow (simp (length-append, length-replicate, length-drop) (omega arith))
-        (λ room. each_append (each_drop k (means_each m whole room)) (each_zeros n (nodes cells b) k))
+        (each_append (each_drop k (means_each m whole)) (each_zeros n cells b k))
 
     pub low_part_means :
         (k : ℕ) → k ≤ row.width → Holds row' k (take k (places row)) → RowMeans n cells b row' (take k r)
     low_part_means k le h =
-        each_means h (omega arith) (simp length-take (omega arith)) (λ room. each_take k (means_each m whole room))
+        each_means h (omega arith) (simp length-take (omega arith)) (each_take k (means_each m whole))
 
     pub extract_means :
         (u l : ℕ) → l ≤ u → u < row.width → Holds row' (u - l + 1) (take (u - l + 1) (drop l (places row))) →
         RowMeans n cells b row' (Row.extract u l r)
     extract_means u l le lt h =
         each_means h (omega arith) (simp (length-take, length-drop) (omega arith))
-        (λ room. each_take (u - l + 1) (each_drop l (means_each m whole room)))
+        (each_take (u - l + 1) (each_drop l (means_each m whole)))
 
     pub extended_means :
-        (w a : ℕ) (x : Bit) → w ≤ 32 → row.width ≤ w → (b.full ≡ false → BitIs n (nodes cells b) a x) →
+        (w a : ℕ) (x : Bit) → w ≤ 32 → row.width ≤ w → BitMeans n cells b a x →
         Holds row' w (places row ++ replicate (w - row.width) a) →
         RowMeans n cells b row' (r ++ replicate (w - length r) x)
     extended_means w a x narrow le bit h =
         each_means h narrow (simp (length-append, length-replicate) (omega arith))
-        (λ room. rw m.long (each_append (means_each m whole room) (each_replicate (w - row.width) a x (bit room))))
+        (rw m.long (each_append (means_each m whole) (each_replicate (w - row.width) a x bit)))
 
     pub zero_extend_means :
         (w : ℕ) → w ≤ 32 → row.width ≤ w → Holds row' w (places row ++ replicate (w - row.width) 0) →
         RowMeans n cells b row' (Row.zero_extend w r)
-    zero_extend_means w narrow le h = extended_means w 0 (known (leaf false)) narrow le (λ room. (refl, tt)) h
+    zero_extend_means w narrow le h = extended_means w 0 (known (leaf false)) narrow le (refl, tt) h
 
     pub sign_extend_means :
         (w : ℕ) → w ≤ 32 → row.width ≤ w → 1 ≤ row.width →
@@ -194,7 +192,7 @@ module _ {n : ℕ} {cells : List ℕ} {b : Builder} where
         RowMeans n cells b row' (Row.sign_extend w r)
     sign_extend_means w narrow le some h =
         extended_means w (get_or (places row) (row.width - 1) 0) (top_bit unknown r) narrow le
-        (λ room. rw (top_bit_lem r (omega arith), m.long) (means_places m room (row.width - 1) (omega arith))) h
+        (rw (top_bit_lem r (omega arith), m.long) (means_places m (row.width - 1) (omega arith))) h
 
     -- a partial product: the row put at k into a row of zeros
     pub raised_means :
@@ -204,7 +202,7 @@ module _ {n : ℕ} {cells : List ℕ} {b : Builder} where
     raised_means into w k narrow fits filled h =
         let all : take row.width r ≡ r = take_all row.width r (omega arith) in
         let up : places row' ≡ replicate k 0 ++ take row.width (places row) =
-        moved_up (places into) (places row') (places row) w k row.width fits filled.1 h.1 in
+        rw (h.1, filled.1) (moved_up (places row) w k row.width fits) in
         rw (← all) (up_means w k row.width narrow fits (omega arith) (h.0 ∙ filled.0, up))
 
   -- ---- two rows joined
@@ -215,4 +213,4 @@ module _ {n : ℕ} {cells : List ℕ} {b : Builder} where
       RowMeans n cells b row (Row.concat r s)
   concat_means mx my wx wy fits h =
       each_means h fits (simp length-append (omega arith))
-      (λ room. each_append (means_each my wy room) (means_each mx wx room))
+      (each_append (means_each my wy) (means_each mx wx))

@@ -1,179 +1,127 @@
--- One place of a sum at a limit, a law for each path of the code.
+-- One place of a sum at a limit: the definition's sum is that place, then the rest, and a law for each path of the code.
 --
---   after_full         once the table is full, more steps leave it full
---   add_over, add_on   what the definition does at a place where both bits are known
---   placed_..          the paths of the code
-use Prim.Native.Nat.{ℕ, suc, ◌+◌, ◌/◌, ◌≤◌, ◌<◌}
+--   add_place             the definition's sum from a place on
+--   step_over, step_on    what the definition does at a place where both bits are known
+--   place_left, ..        the paths of the code
+use Prim.Native.Nat.{ℕ, suc, ◌+◌, ◌≤◌, ◌<◌}
 use native.Mathlib.Omega.{arith}
-use mathlib.Core.Path.{◌≡◌, refl, sym, ap, ◌∙◌}
+use mathlib.Core.Path.{◌≡◌, refl, sym, subst, ◌∙◌}
 use mathlib.Core.Logic.{◌≢◌}
-use mathlib.Core.Bool.{Bool, true, false, true≢false}
-use mathlib.Core.List.{List, [], ◌∷◌, ◌++◌, append_assoc, append-nil}
+use mathlib.Core.Bool.{Bool, true, false}
+use mathlib.Core.List.{List, [], ◌∷◌, ◌++◌, append-nil}
 use lib.Dec.{ltb, eqb}
 use lib.ListN.{length, get_or, set, length-append, get_or-append}
 use lib.Seq.{get_or-set_same, get_or-set_other, get_or_at}
-use borrow.Author.Tests.{eqb-true, eqb-false, ltb-true, lt-ltb}
+use borrow.Author.Tests.{eqb-true, eqb-false}
+use Rattle.std.specs.Prelude.{Option, Some, None, Ok, Err}
 use Rattle.meaning.specs.Diagram.{Tree}
-use Rattle.meaning.specs.Table.{enter_all, count}
-use Rattle.meaning.specs.Step.{Work, step, is_xor, unused, done}
+use Rattle.meaning.specs.Table.{count}
+use Rattle.meaning.specs.Step.{Work, ◌>>=◌, step, unused, done}
 use Rattle.meaning.specs.Row
 use Rattle.meaning.specs.Row.{Bit, known, unknown, unknowns, counted, next_carry, add_from}
 use Rattle.meaning.specs.Lent.{tree_of}
-use Rattle.meaning.proofs.Laws.Table.{Is, enter_all_append, enter_all_grows}
-use Rattle.diagram.specs.State.{nodes, Alive, Known, After, Ready}
+use Rattle.diagram.specs.State.{Ready, Known, After, Does, Lacks}
 use Rattle.diagram.specs.declared.builder.Builder.{Builder}
-use Rattle.diagram.proofs.Laws.After.{after_nothing, after_then, after_known}
-use Rattle.term.specs.Row.{mark, BitIs}
-use Rattle.term.specs.Bit.{BitMeans}
-use Rattle.term.specs.Add.{sum_step, SumMade, Sums, Carries, NumbersMean, Countable, Exceeds, Summing, SumMeans}
-use Rattle.term.specs.Add.{Tallies, Tallying, GoesOn, Placed, cut_at}
+use Rattle.diagram.specs.declared.builder.Made.{Made}
+use Rattle.diagram.specs.declared.builder.NoRoom.{NoRoom}
+use Rattle.diagram.specs.declared.scratch.Scratch.{Scratch}
+use Rattle.diagram.proofs.Laws.After.{after_known, after_then, works_done, lacks_then, lacks_more}
+use Rattle.term.specs.Row.{mark, BitKnown, BitMeans}
+use Rattle.term.specs.Add.{SumBit, sum_step, Next, place_step, DiagramMeans, SummedMeans, Sums, Carries}
+use Rattle.term.specs.Add.{NumbersMean, Tallies, Countable, Exceeds, Told, Summing, SumMeans, Places}
 use Rattle.term.specs.declared.add.Sum.{Sum}
+use Rattle.term.specs.declared.add.Summed.{Summed}
 use Rattle.term.specs.declared.add.Tally.{Tally}
-use Rattle.term.proofs.Laws.Rows.{is_used, not_mark}
+use Rattle.term.proofs.Laws.Rows.{is_used, not_mark, known_unmarked}
 use Rattle.term.proofs.Laws.Sum.{known_means, means_known, means_after}
-use Rattle.term.proofs.Laws.Count.{tallies_after, tallies_more}
-
--- ---- a full table
-
--- ys are xs and some more
-pub record Begins (xs ys : List Tree) : Type 0 where
-  pub more : List Tree
-  pub whole : ys ≡ xs ++ more
-
--- once the table is full, more steps leave it full
-pub after_full : {cells w cells' w' : List ℕ} {b b' : Builder} {xs ys : List Tree} → After cells w b xs cells' w' b'
-    → b'.full ≡ true → (b.full ≡ false → Begins xs ys) → After cells w b ys cells' w' b'
-after_full {cells} {b = b} {b' = b'} {xs = xs} {ys = ys} p full begins =
-    record {
-      kept = p.kept;
-      stays = p.stays;
-      filled = λ free. full ∙ sym (over free (begins free));
-      entered = λ free. absurd (true≢false (sym full ∙ free));
-      ready = λ free. absurd (true≢false (sym full ∙ free));
-    }
-  where
-    over : b.full ≡ false → Begins xs ys → ltb (length cells / 3) (length (enter_all ys (nodes cells b))) ≡ true
-    over free begun =
-        let slots = length cells / 3 in
-        let some = enter_all xs (nodes cells b) in
-        let above = ltb-true slots (length some) (sym (p.filled free) ∙ full) in
-        let grown = enter_all_grows begun.more some in
-        rw (begun.whole, enter_all_append xs begun.more (nodes cells b))
-        (lt-ltb slots (length (enter_all begun.more some)) (omega arith))
-
--- the steps under another name
-pub after_is : {cells w cells' w' : List ℕ} {b b' : Builder} {xs ys : List Tree} → ys ≡ xs
-    → After cells w b xs cells' w' b'
-    → After cells w b ys cells' w' b'
-after_is e p = rw e p
+use Rattle.term.proofs.Laws.Count.{tallies_after, tallies_more, exceeds_over, exceeds_not}
 
 -- ---- one place of the definition
 
-module _ (n L : ℕ) (c : Tree) (sums : List Tree) (a b : Tree) (ar br : Row.Row) where
-  abbrev sum : Tree
-  sum = (sum_step n a b c).value
+-- the sum from the next place on
+abbrev pub rest_of : ℕ → ℕ → List Tree → Row.Row → Row.Row → Option Next → Work Row.Row
+rest_of n L sums ar br None = done (unknowns (suc (length ar)))
+rest_of n L sums ar br (Some x) = do
+  sr ← add_from n L x.carry (sums ++ (x.sum ∷ [])) ar br
+  done (known x.sum ∷ sr)
+
+-- unknown bits cut it
+place_unknown : (n L : ℕ) (c : Tree) (sums : List Tree) (p : Bit) (ar : Row.Row)
+    → place_step n L c sums p unknown ar ≡ done None
+place_unknown n L c sums (known a) ar = refl
+place_unknown n L c sums unknown ar = refl
+
+module _ (n L : ℕ) (c : Tree) (sums : List Tree) (a b : Tree) (ar : Row.Row) where
+  abbrev made : SumBit
+  made = (sum_step n a b c).value
 
   abbrev carried : Work Tree
-  carried = next_carry n (step n is_xor a b unused).value a b c ar
-
-  abbrev rest : Work Row.Row
-  rest = add_from n L carried.value (sums ++ (sum ∷ [])) ar br
+  carried = next_carry n made.half a b c ar
 
   abbrev over : Bool
-  over = ltb L (count (counted (sums ++ (sum ∷ [])) c))
+  over = ltb L (count (counted (sums ++ (made.sum ∷ [])) c))
 
-  abbrev here : Work Row.Row
-  here = add_from n L c sums (known a ∷ ar) (known b ∷ br)
-
-  add_over : over ≡ true
-      → (here.steps ≡ (sum_step n a b c).steps) × (here.value ≡ unknowns (suc (length ar)))
+  -- too many nodes
+  step_over : over ≡ true
+      → place_step n L c sums (known a) (known b) ar ≡ record { value = None; steps = (sum_step n a b c).steps }
   unfolding step
-  add_over e = rw e (refl, refl)
+  step_over e = rw e refl
 
-  add_on : over ≡ false
-      → (here.steps ≡ ((sum_step n a b c).steps ++ carried.steps) ++ rest.steps)
-      × (here.value ≡ known sum ∷ rest.value)
+  -- not too many
+  step_on : over ≡ false → place_step n L c sums (known a) (known b) ar
+      ≡ record {
+        value = Some (record { sum = made.sum; carry = carried.value });
+        steps = (sum_step n a b c).steps ++ carried.steps;
+      }
   unfolding step
-  add_on e = rw (e, append-nil rest.steps) (refl, refl)
+  step_on e = rw (e, append-nil carried.steps) refl
 
-  add_begins : Begins (sum_step n a b c).steps here.steps
-  add_begins = go over refl
-    where
-      go : (s : Bool) → over ≡ s → Begins (sum_step n a b c).steps here.steps
-      go true e = record { more = []; whole = (add_over e).0 ∙ sym (append-nil (sum_step n a b c).steps) }
-      go false e =
-          record {
-            more = carried.steps ++ rest.steps;
-            whole = (add_on e).0 ∙ append_assoc (sum_step n a b c).steps carried.steps rest.steps;
-          }
+  step_lacks : over ≡ false → {cells cells' : List ℕ} {b' : Builder}
+      → Lacks cells b' ((sum_step n a b c).steps ++ carried.steps) cells'
+      → Lacks cells b' (place_step n L c sums (known a) (known b) ar).steps cells'
+  step_lacks e {cells} {cells'} {b'} lacks =
+      subst (λ (m : Work (Option Next)). Lacks cells b' m.steps cells') (sym (step_on e)) lacks
+
+-- a place, then the rest
+pub add_place : (n L : ℕ) (c : Tree) (sums : List Tree) (p q : Bit) (ar br : Row.Row)
+    → add_from n L c sums (p ∷ ar) (q ∷ br) ≡ ◌>>=◌ (place_step n L c sums p q ar) (rest_of n L sums ar br)
+unfolding step
+add_place n L c sums unknown q ar br = refl
+add_place n L c sums (known a) unknown ar br = refl
+add_place n L c sums (known a) (known b) ar br = go (over n L c sums a b ar) refl
+  where
+    go : (e : Bool) → over n L c sums a b ar ≡ e → add_from n L c sums (known a ∷ ar) (known b ∷ br)
+        ≡ ◌>>=◌ (place_step n L c sums (known a) (known b) ar) (rest_of n L sums ar br)
+    go true e = rw e refl
+    go false e = rw (e, append-nil (carried n L c sums a b ar).steps) refl
 
 -- ---- one place of the code
 
--- no diagram's number is the mark
-unmarked : {cells w : List ℕ} {b : Builder} → Ready cells w b → (a : ℕ) (t : Tree) → Is (nodes cells b) a t → a ≢ mark
-unmarked {cells} {b = b} ready a t is = not_mark ready a (is_used cells b a t is)
+-- a known bit, and its diagram
+record StandsFor (n : ℕ) (cells : List ℕ) (b : Builder) (a : ℕ) (p : Bit) : Type 0 where
+  tree : Tree
+  is : p ≡ known tree
+  means : DiagramMeans n cells b a tree
 
--- no step, and all bits from here on are unknown
-abbrev Unknown : ℕ → ℕ → Tree → List Tree → Bit → Bit → Row.Row → Row.Row → Type 0
-Unknown n L c sums p q ar br = add_from n L c sums (p ∷ ar) (q ∷ br) ≡ done (unknowns (suc (length ar)))
+-- the mark stands for the unknown bit, any other number for a known one
+module _ (n : ℕ) {cells : List ℕ} {s : Scratch} {b : Builder} (ready : Ready cells s b) (a : ℕ) where
+  is_unknown : (p : Bit) → BitMeans n cells b a p → a ≡ mark → p ≡ unknown
+  is_unknown (known t) is e = absurd (not_mark ready a (is_used cells b a t is.0) e)
+  is_unknown unknown is e = refl
 
-module _ {n L : ℕ} {c : Tree} {sums : List Tree} {p q : Bit} (ar br : Row.Row) {cells w : List ℕ} {s : Sum} where
-  placed_cut : {cells' w' : List ℕ} {b' : Builder}
-      → After cells w s.at (add_from n L c sums (p ∷ ar) (q ∷ br)).steps cells' w' b'
-      → (b'.full ≡ false → (add_from n L c sums (p ∷ ar) (q ∷ br)).value ≡ unknowns (suc (length ar)))
-      → Placed n L c sums p q ar br cells w s cells' w' (cut_at s b')
-  placed_cut after value =
-      record {
-        stops = λ _. record { same = refl; after = after; value = value };
-        goes_on = λ on. absurd (true≢false on);
-      }
-
-  -- an operand bit is unknown
-  module _ (alive : Alive cells w s.at) where
-    placed_still : (s.at.full ≡ false → Unknown n L c sums p q ar br)
-        → Placed n L c sums p q ar br cells w s cells w (cut_at s s.at)
-    placed_still still = go s.at.full refl
-      where
-        none : After cells w s.at [] cells w s.at
-        none = after_nothing cells w s.at alive
-
-        go : (full : Bool) → s.at.full ≡ full → Placed n L c sums p q ar br cells w s cells w (cut_at s s.at)
-        go true full =
-            placed_cut (after_full none full (λ free. absurd (true≢false (sym full ∙ free))))
-            (λ free. absurd (true≢false (sym full ∙ free)))
-        go false free =
-            placed_cut (rw (still free) none) (λ _. ap (λ (m : Work Row.Row). m.value) (still free))
-
-    pub placed_left : {x : ℕ} → BitMeans n cells s.at x p → x ≡ mark
-        → Placed n L c sums p q ar br cells w s cells w (cut_at s s.at)
-    placed_left {x} is_x e = placed_still (λ free. go p free (is_x.is free))
-      where
-        go : (p : Bit) → s.at.full ≡ false → BitIs n (nodes cells s.at) x p → Unknown n L c sums p q ar br
-        go (known t) free is = absurd (unmarked (alive free) x t is.0 e)
-        go unknown free is = refl
-
-    pub placed_right : {y : ℕ} → BitMeans n cells s.at y q → y ≡ mark
-        → Placed n L c sums p q ar br cells w s cells w (cut_at s s.at)
-    placed_right {y} is_y e = placed_still (λ free. go p q free (is_y.is free))
-      where
-        go : (p q : Bit) → s.at.full ≡ false → BitIs n (nodes cells s.at) y q → Unknown n L c sums p q ar br
-        go p (known t) free is = absurd (unmarked (alive free) y t is.0 e)
-        go (known t) unknown free is = refl
-        go unknown unknown free is = refl
-
--- what is counted doesn't matter after a cut
-pub cut_tallying : {cells marks : List ℕ} {L : ℕ} (r : Sum) → r.cut ≡ true → Tallying cells marks L r
-cut_tallying r is on = absurd (true≢false (sym is ∙ on))
+  is_known : (p : Bit) → BitMeans n cells b a p → a ≢ mark → StandsFor n cells b a p
+  is_known (known t) is other = record { tree = t; is = refl; means = record { is = is.0; good = is.1 } }
+  is_known unknown is other = absurd (other is)
 
 -- one number more for one sum bit more
 numbers_more : {n : ℕ} {cells : List ℕ} {b : Builder} {bits : List ℕ} {sums : List Tree} (i : ℕ) {a : ℕ} {t : Tree}
-    → length sums ≡ i → i < length bits → NumbersMean n cells b bits sums → BitMeans n cells b a (known t)
+    → length sums ≡ i → i < length bits → NumbersMean n cells b bits sums → DiagramMeans n cells b a t
     → NumbersMean n cells b (set bits i a) (sums ++ (t ∷ []))
 numbers_more {n} {cells} {b} {bits} {sums} i {a} {t} long inside numbers is =
     record { each = λ k below. go k below (eqb k i) refl }
   where
     go : (k : ℕ) → k < length (sums ++ (t ∷ [])) → (e : Bool) → eqb k i ≡ e
-        → BitMeans n cells b (get_or (set bits i a) k 0) (known (get_or (sums ++ (t ∷ [])) k unused))
+        → DiagramMeans n cells b (get_or (set bits i a) k 0) (get_or (sums ++ (t ∷ [])) k unused)
     go k below true e =
         let here = eqb-true k i e in
         rw (here, get_or-set_same bits i a 0 inside, get_or_at sums t [] unused i long) is
@@ -182,195 +130,189 @@ numbers_more {n} {cells} {b} {bits} {sums} i {a} {t} long inside numbers is =
         let before : k < length sums = omega (arith, length-append sums (t ∷ [])) in
         rw (get_or-set_other bits i k a 0 other, get_or-append sums (t ∷ []) unused k before) (numbers.each k before)
 
-pub numbers_after : {n : ℕ} {cells w cells' w' : List ℕ} {b b' : Builder} {xs : List Tree} {bits : List ℕ}
+pub numbers_after : {n : ℕ} {cells cells' : List ℕ} {s' : Scratch} {b b' : Builder} {xs : List Tree} {bits : List ℕ}
     {sums : List Tree}
-    → After cells w b xs cells' w' b' → NumbersMean n cells b bits sums → NumbersMean n cells' b' bits sums
+    → After cells b xs cells' s' b' → NumbersMean n cells b bits sums → NumbersMean n cells' b' bits sums
 numbers_after after numbers = record { each = λ k below. means_after after (numbers.each k below) }
 
+-- the numbers and the sum bits with one more
+abbrev bits_with : Sum → Made Summed → List ℕ
+bits_with sum made = set sum.bits sum.count made.value.sum
+
+abbrev sums_with : ℕ → List Tree → Tree → Tree → Tree → List Tree
+sums_with n sums p q c = sums ++ ((sum_step n p q c).value.sum ∷ [])
+
+-- the code's sum with one bit more
+abbrev sum_with : Sum → Made Summed → Made ℕ → Tally → Sum
+sum_with sum made next tally =
+    record { bits = bits_with sum made; count = sum.count + 1; carry = next.value; tally = tally }
+
 -- both operand bits are known, and their sum bit was made
-module _ {n : ℕ} (L : ℕ) (le : n ≤ 128) {c : Tree} {sums : List Tree} (ar br : Row.Row) {cells w : List ℕ} {s : Sum}
-    {x y : ℕ} (not_x : x ≢ mark) (not_y : y ≢ mark) (means : SumMeans n cells s c sums)
-    (whole : s.count < length s.bits)
-    {cells₁ w₁ : List ℕ} {b₁ : Builder} {half sum : ℕ}
-    (made : Sums cells w s.at x y s.carry cells₁ w₁ b₁ half sum) where
-  -- once the table is full it stays so
-  stuck : s.at.full ≡ true → SumMade n cells w s.at unused unused unused cells₁ w₁ b₁ half sum
-  stuck full =
-      let none : (a : ℕ) → BitMeans n cells s.at a (known unused) =
-      λ a. record { is = λ free. absurd (true≢false (sym full ∙ free)) } in
-      made n unused unused unused le (none x) (none y) (none s.carry)
+module _ {n : ℕ} (p q c : Tree) (sum : Sum) {cells c₁ : List ℕ} {s₁ : Scratch} {b : Builder} {made : Made Summed}
+    (does : Does (SummedMeans n) cells b (sum_step n p q c) c₁ s₁ made) (inside : sum.count < length sum.bits) where
+  module _ {sums : List Tree} (means : SumMeans n cells b sum c sums) where
+    next_long : length (sums_with n sums p q c) ≡ sum.count + 1
+    next_long =
+        let long = length-append sums ((sum_step n p q c).value.sum ∷ []) in
+        omega (arith, means.long)
 
-  -- its number among those before
-  more : {a b : Tree} → SumMade n cells w s.at a b c cells₁ w₁ b₁ half sum
-      → NumbersMean n cells₁ b₁ (set s.bits s.count sum) (sums ++ ((sum_step n a b c).value ∷ []))
-  more m = numbers_more s.count means.long whole (numbers_after m.after means.numbers) m.sum_means
+    -- its number among those before
+    more : NumbersMean n c₁ made.at (bits_with sum made) (sums_with n sums p q c)
+    more = numbers_more sum.count means.long inside (numbers_after does.after means.numbers) does.means.sum
 
-  -- the test is the definition's
-  test : {a b : Tree} {r : Bool} → SumMade n cells w s.at a b c cells₁ w₁ b₁ half sum → b₁.full ≡ false
-      → Exceeds cells₁ b₁ L (set s.bits s.count sum) (s.count + 1) r → over n L c sums a b ar br ≡ r
-  test {a} {b} m free exceeds =
-      let next = (sum_step n a b c).value in
-      let long = length-append sums (next ∷ []) in
-      sym (exceeds.counts n c (sums ++ (next ∷ [])) free (omega (arith, means.long)) (more m))
+    -- the test is the definition's
+    test_is : (L : ℕ) (ar : Row.Row) {r : Bool} → Exceeds c₁ made.at L (bits_with sum made) (sum.count + 1) r
+        → over n L c sums p q ar ≡ r
+    test_is L ar exceeds = sym (exceeds.counts n c (sums_with n sums p q c) next_long more)
 
-  -- too many nodes, or the table is full
-  pub placed_over : {p q : Bit} → BitMeans n cells s.at x p → BitMeans n cells s.at y q
-      → Exceeds cells₁ b₁ L (set s.bits s.count sum) (s.count + 1) true
-      → Placed n L c sums p q ar br cells w s cells₁ w₁ (cut_at s b₁)
-  placed_over {p} {q} is_x is_y exceeds = go s.at.full refl p q is_x is_y
-    where
-      counted_over : {a b : Tree} → SumMade n cells w s.at a b c cells₁ w₁ b₁ half sum
-          → (full : Bool) → b₁.full ≡ full
-          → Placed n L c sums (known a) (known b) ar br cells w s cells₁ w₁ (cut_at s b₁)
-      counted_over {a} {b} m true full =
-          placed_cut ar br (after_full m.after full (λ _. add_begins n L c sums a b ar br))
-          (λ free. absurd (true≢false (sym full ∙ free)))
-      counted_over {a} {b} m false free =
-          let is = add_over n L c sums a b ar br (test m free exceeds) in
-          placed_cut ar br (after_is is.0 m.after) (λ _. is.1)
+    -- the sum with this bit
+    next_made : {c₂ : List ℕ} {s₂ : Scratch} {m : Work Tree} {carry : Made ℕ} (tally : Tally)
+        → Does (DiagramMeans n) c₁ made.at m c₂ s₂ carry
+        → SumMeans n c₂ carry.at
+        (record { bits = bits_with sum made; count = sum.count + 1; carry = carry.value; tally = tally }) m.value
+        (sums_with n sums p q c)
+    next_made tally carry =
+        record {
+          long = next_long;
+          carry = carry.means;
+          numbers = numbers_after carry.after more;
+          above = λ k from below.
+              get_or-set_other sum.bits sum.count k made.value.sum 0 (λ e. omega arith)
+              ∙ means.above k (omega arith) below;
+        }
 
-      go : (full : Bool) → s.at.full ≡ full → (p q : Bit)
-          → BitMeans n cells s.at x p → BitMeans n cells s.at y q
-          → Placed n L c sums p q ar br cells w s cells₁ w₁ (cut_at s b₁)
-      go true full p q is_x is_y =
-          let m = stuck full in
-          placed_cut ar br (after_full m.after (m.after.stays full)
-          (λ free. absurd (true≢false (sym full ∙ free))))
-          (λ free. absurd (true≢false (sym (m.after.stays full) ∙ free)))
-      go false free (known a) (known b) is_x is_y =
-          counted_over (made n a b c le is_x is_y means.carry) b₁.full refl
-      go false free (known a) unknown is_x is_y = absurd (not_y (is_y.is free))
-      go false free unknown q is_x is_y = absurd (not_x (is_x.is free))
-
-  -- the sum with this bit
-  abbrev next_sum : Builder → ℕ → Tally → Sum
-  next_sum b carry tally =
-      record {
-        at = b;
-        bits = set s.bits s.count sum;
-        count = s.count + 1;
-        carry = carry;
-        tally = tally;
-        cut = false;
-      }
-
-  -- not too many
-  pub placed_on : {p q : Bit} {top : Bool} {cells' w' : List ℕ} {b' : Builder} {carry : ℕ}
-      → BitMeans n cells s.at x p → BitMeans n cells s.at y q
-      → b₁.full ≡ false → Exceeds cells₁ b₁ L (set s.bits s.count sum) (s.count + 1) false
-      → top ≡ eqb (length ar) 0 → Carries cells₁ w₁ b₁ half x y s.carry top cells' w' b' carry
-      → {tally : Tally} → Placed n L c sums p q ar br cells w s cells' w' (next_sum b' carry tally)
-  placed_on {p} {q} {top} {cells'} {w'} {b'} {carry} is_x is_y free₁ exceeds is_top carries {tally} =
-      record { stops = λ over. absurd (true≢false (sym over)); goes_on = λ _. go s.at.full refl p q is_x is_y }
-    where
-      go : (full : Bool) → s.at.full ≡ full → (p q : Bit)
-          → BitMeans n cells s.at x p → BitMeans n cells s.at y q
-          → GoesOn n L c sums p q ar br cells w s cells' w' (next_sum b' carry tally)
-      go true full p q is_x is_y = absurd (true≢false (sym ((stuck full).after.stays full) ∙ free₁))
-      go false free (known a) (known b) is_x is_y =
-          let m = made n a b c le is_x is_y means.carry in
-          let next =
-          carries n _ a b c ar le is_top m.half_means (means_after m.after is_x) (means_after m.after is_y)
-          (means_after m.after means.carry) in
-          let is = add_on n L c sums a b ar br (test m free₁ exceeds) in
-          let long = length-append sums ((sum_step n a b c).value ∷ []) in
-          record {
-            sum = (sum_step n a b c).value;
-            carry = (carried n L c sums a b ar br).value;
-            steps = (sum_step n a b c).steps ++ (carried n L c sums a b ar br).steps;
-            after = after_then m.after next.after;
-            means =
-                record {
-                  long = omega (arith, means.long);
-                  carry = next.means;
-                  numbers = numbers_after next.after (more m);
-                  above = λ k from below.
-                      get_or-set_other s.bits s.count k sum 0 (λ e. omega arith)
-                      ∙ means.above k (omega arith) below;
-                };
-            all_steps = is.0;
-            all_bits = is.1;
-          }
-      go false free (known a) unknown is_x is_y = absurd (not_y (is_y.is free))
-      go false free unknown q is_x is_y = absurd (not_x (is_x.is free))
-
--- ---- what the calls of a place need
-
-module _ {cells w marks : List ℕ} {limit : ℕ} {s : Sum} (summing : Summing cells w marks limit s) {x y : ℕ}
-    {cells' w' : List ℕ} {b' : Builder} {half sum : ℕ} where
-  pub sum_some : Known s.at x → Known s.at y → Sums cells w s.at x y s.carry cells' w' b' half sum
-      → SumMade 128 cells w s.at (tree_of cells x) (tree_of cells y) (tree_of cells s.carry) cells' w' b' half sum
-  sum_some known_x known_y made =
-      let means : (a : ℕ) → Known s.at a → BitMeans 128 cells s.at a (known (tree_of cells a)) =
-      known_means summing.alive in
-      made 128 _ _ _ (omega arith) (means x known_x) (means y known_y) (means s.carry summing.carry)
-
-module _ {cells w marks : List ℕ} {limit : ℕ} {s : Sum} (summing : Summing cells w marks limit s)
-    {n : ℕ} {p q c : Tree} {cells' w' : List ℕ} {b' : Builder} {half sum : ℕ}
-    (made : SumMade n cells w s.at p q c cells' w' b' half sum) where
   -- the first numbers, this one included
-  place_known : s.count < length s.bits → (i : ℕ) → i < s.count + 1
-      → Known b' (get_or (set s.bits s.count sum) i 0)
-  place_known inside i below = go (eqb i s.count) refl
+  number_known : ((i : ℕ) → i < sum.count → Known b (get_or sum.bits i 0))
+      → (i : ℕ) → i < sum.count + 1 → Known made.at (get_or (bits_with sum made) i 0)
+  number_known each i below = go (eqb i sum.count) refl
     where
-      go : (e : Bool) → eqb i s.count ≡ e → Known b' (get_or (set s.bits s.count sum) i 0)
+      go : (e : Bool) → eqb i sum.count ≡ e → Known made.at (get_or (bits_with sum made) i 0)
       go true e =
-          let here = eqb-true i s.count e in
-          rw (here, get_or-set_same s.bits s.count sum 0 inside) (means_known made.sum_means)
+          let here = eqb-true i sum.count e in
+          rw (here, get_or-set_same sum.bits sum.count made.value.sum 0 inside) (means_known does.means.sum)
       go false e =
-          let other = eqb-false i s.count e in
-          rw (get_or-set_other s.bits s.count i sum 0 other)
-          (after_known made.after (summing.each i (omega arith)))
+          let other = eqb-false i sum.count e in
+          rw (get_or-set_other sum.bits sum.count i made.value.sum 0 other) (after_known does.after (each i (omega arith)))
 
-  pub place_countable : s.count < length s.bits → b'.full ≡ false
-      → Countable cells' marks b' limit (set s.bits s.count sum) (s.count + 1) s.tally
-  place_countable inside free =
-      let ready = made.after.ready free in
-      record {
-        free = free;
-        laid = record { room = ready.room; small = ready.small; single = ready.single; falls = ready.falls };
-        low = summing.low;
-        marks_room = summing.marks_room;
-        narrow = omega (arith, summing.narrow);
-        each = place_known inside;
-        tallies =
-            tallies_more s.count sum
-            (tallies_after made.after summing.alive summing.each summing.tallies);
-      }
+-- ---- the paths of the code
 
-  pub place_carries : {x y : ℕ} → Known s.at x → Known s.at y
-      → Alive cells' w' b' × (Known b' half × (Known b' x × (Known b' y × Known b' s.carry)))
-  place_carries known_x known_y = (
-    made.after.ready,
-    (
-      means_known made.half_means,
-      (
-        after_known made.after known_x,
-        (after_known made.after known_y, after_known made.after summing.carry),
-      ),
-    ),
-  )
+-- an operand bit is unknown
+module _ (L : ℕ) {cells marks : List ℕ} {s : Scratch} {b : Builder} {sum : Sum} (summing : Summing cells s marks b L sum)
+    (x y : ℕ) (top : Bool) where
+  pub place_left : x ≡ mark → Places L cells b sum x y top cells s (Ok (record { at = b; value = None }))
+  place_left e n c sums p q ar le is_top means is_x is_y =
+      rw (is_unknown n summing.ready x p is_x e) (works_done summing.ready tt)
 
-  -- what is counted stays so while the next carry is made
-  module _ {x y : ℕ} {top : Bool} {cells'' w'' : List ℕ} {b'' : Builder} {carry : ℕ} where
-    pub place_tallies : s.count < length s.bits → Known s.at x → Known s.at y
-        → Carries cells' w' b' half x y s.carry top cells'' w'' b'' carry → {marks' : List ℕ} {r : Tally}
-        → Tallies cells' marks' b' limit (set s.bits s.count sum) (s.count + 1) r
-        → Tallies cells'' marks' b'' limit (set s.bits s.count sum) (s.count + 1) r
-    place_tallies inside known_x known_y carries tallies =
-        let all = place_carries known_x known_y in
-        let alive = all.0 in
-        let means : (a : ℕ) → Known b' a → BitMeans 128 cells' b' a (known (tree_of cells' a)) = known_means alive in
-        let carried =
-        carries 128 _ _ _ _ (left top) (omega arith) (left_top top) (means half all.1.0) (means x all.1.1.0)
-        (means y all.1.1.1.0) (means s.carry all.1.1.1.1) in
-        tallies_after carried.after alive (place_known inside) tallies
-      where
-        -- some bits above this one, unless it is the top
-        left : Bool → Row.Row
-        left true = []
-        left false = unknown ∷ []
+  pub place_right : y ≡ mark → Places L cells b sum x y top cells s (Ok (record { at = b; value = None }))
+  place_right e n c sums p q ar le is_top means is_x is_y =
+      rw (is_unknown n summing.ready y q is_y e, place_unknown n L c sums p ar) (works_done summing.ready tt)
 
-        left_top : (top : Bool) → top ≡ eqb (length (left top)) 0
-        left_top true = refl
-        left_top false = refl
+  -- both are known
+  module _ (not_x : x ≢ mark) (not_y : y ≢ mark) (c₁ : List ℕ) (s₁ : Scratch) where
+    pub place_lacks : (e : NoRoom) → Sums cells b x y sum.carry c₁ s₁ (Err e) → Places L cells b sum x y top c₁ s₁ (Err e)
+    place_lacks e lacks n c sums p q ar le is_top means is_x is_y =
+        let u = is_known n summing.ready x p is_x not_x in
+        let v = is_known n summing.ready y q is_y not_y in
+        rw (u.is, v.is) (lacks_more _ (lacks n u.tree v.tree c le u.means v.means means.carry))
+
+    module _ (made : Made Summed) (does : Sums cells b x y sum.carry c₁ s₁ (Ok made)) (long : length sum.bits ≡ 32) where
+      inside : sum.count < length sum.bits
+      inside = omega (arith, summing.narrow)
+
+      module _ {marks₁ : List ℕ} {tally : Tally} (told : Told c₁ marks₁ made.at L (bits_with sum made) (sum.count + 1) tally) where
+        -- too many nodes
+        pub place_over : L < tally.nodes → Places L cells b sum x y top c₁ s₁ (Ok (record { at = made.at; value = None }))
+        place_over many n c sums p q ar le is_top means is_x is_y =
+            let u = is_known n summing.ready x p is_x not_x in
+            let v = is_known n summing.ready y q is_y not_y in
+            let d = does n u.tree v.tree c le u.means v.means means.carry in
+            let test = test_is u.tree v.tree c sum d inside means L ar (exceeds_over told many) in
+            rw (u.is, v.is, step_over n L c sums u.tree v.tree ar test) (record { after = d.after; means = tt })
+
+        module _ (fits : tally.nodes ≤ L) (c₂ : List ℕ) (s₂ : Scratch) where
+          pub carry_lacks : (e : NoRoom) → Carries c₁ made.at made.value.half x y sum.carry top c₂ s₂ (Err e)
+              → Places L cells b sum x y top c₂ s₂ (Err e)
+          carry_lacks e lacks n c sums p q ar le is_top means is_x is_y =
+              let u = is_known n summing.ready x p is_x not_x in
+              let v = is_known n summing.ready y q is_y not_y in
+              let d = does n u.tree v.tree c le u.means v.means means.carry in
+              let test = test_is u.tree v.tree c sum d inside means L ar (exceeds_not told fits) in
+              let later =
+              lacks n _ u.tree v.tree c ar le is_top d.means.half (means_after d.after u.means) (means_after d.after v.means)
+              (means_after d.after means.carry) in
+              rw (u.is, v.is) (step_lacks n L c sums u.tree v.tree ar test (lacks_then d.after later))
+
+          -- the bit is kept
+          pub place_on : (next : Made ℕ) → Carries c₁ made.at made.value.half x y sum.carry top c₂ s₂ (Ok next)
+              → Places L cells b sum x y top c₂ s₂
+              (Ok (record { at = next.at; value = Some (sum_with sum made next tally) }))
+          place_on next carries n c sums p q ar le is_top means is_x is_y =
+              let u = is_known n summing.ready x p is_x not_x in
+              let v = is_known n summing.ready y q is_y not_y in
+              let d = does n u.tree v.tree c le u.means v.means means.carry in
+              let test = test_is u.tree v.tree c sum d inside means L ar (exceeds_not told fits) in
+              let later =
+              carries n _ u.tree v.tree c ar le is_top d.means.half (means_after d.after u.means) (means_after d.after v.means)
+              (means_after d.after means.carry) in
+              rw (u.is, v.is, step_on n L c sums u.tree v.tree ar test)
+              (record {
+                after = after_then d.after later.after;
+                means = next_made u.tree v.tree c sum d inside means tally later;
+              })
+
+      -- ---- what the calls of a place need
+
+      module _ (known : BitKnown b x × BitKnown b y) where
+        -- some diagrams that the operand bits and the carry stand for
+        some : Does (SummedMeans 128) cells b (sum_step 128 (tree_of cells x) (tree_of cells y) (tree_of cells sum.carry)) c₁ s₁
+            made
+        some =
+            let means : (a : ℕ) → Known b a → DiagramMeans 128 cells b a (tree_of cells a) = known_means summing.ready in
+            does 128 _ _ _ (omega arith) (means x (known_unmarked b x known.0 not_x))
+            (means y (known_unmarked b y known.1 not_y)) (means sum.carry summing.carry)
+
+        pub place_countable : Countable c₁ marks made.at L (bits_with sum made) (sum.count + 1) sum.tally
+        place_countable =
+            let ready = some.after.ready in
+            record {
+              laid = record { room = ready.room; small = ready.small; single = ready.single; falls = ready.falls };
+              narrow = omega (arith, summing.narrow);
+              each = number_known _ _ _ sum some inside summing.each;
+              tallies =
+                  tallies_more sum.count made.value.sum
+                  (tallies_after some.after summing.ready summing.each summing.tallies);
+            }
+
+        pub place_ready : Ready c₁ s₁ made.at
+        place_ready = some.after.ready
+
+        pub place_known : Known made.at made.value.half × (Known made.at x × (Known made.at y × Known made.at sum.carry))
+        place_known = (
+          means_known some.means.half,
+          (
+            after_known some.after (known_unmarked b x known.0 not_x),
+            (after_known some.after (known_unmarked b y known.1 not_y), after_known some.after summing.carry),
+          ),
+        )
+
+        -- what is counted stays so while the next carry is made
+        pub place_tallies : {marks₁ : List ℕ} {tally : Tally} (next : Made ℕ) (c₂ : List ℕ) (s₂ : Scratch)
+            → Carries c₁ made.at made.value.half x y sum.carry top c₂ s₂ (Ok next)
+            → Tallies c₁ marks₁ made.at L (bits_with sum made) (sum.count + 1) tally
+            → Tallies c₂ marks₁ next.at L (bits_with sum made) (sum.count + 1) tally
+        place_tallies next c₂ s₂ carries tallies =
+            let means : (a : ℕ) → Known made.at a → DiagramMeans 128 c₁ made.at a (tree_of c₁ a) = known_means some.after.ready in
+            let all = place_known in
+            let later =
+            carries 128 _ _ _ _ (left top) (omega arith) (left_top top) (means made.value.half all.0) (means x all.1.0)
+            (means y all.1.1.0) (means sum.carry all.1.1.1) in
+            tallies_after later.after some.after.ready (number_known _ _ _ sum some inside summing.each) tallies
+          where
+            -- some bits above this one, unless it is the top
+            left : Bool → Row.Row
+            left true = []
+            left false = unknown ∷ []
+
+            left_top : (top : Bool) → top ≡ eqb (length (left top)) 0
+            left_top true = refl
+            left_top false = refl

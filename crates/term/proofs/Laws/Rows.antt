@@ -21,12 +21,13 @@ use Rattle.meaning.specs.Row.{Bit, known, unknown}
 use Rattle.meaning.specs.Lent.{tree_of}
 use Rattle.meaning.proofs.Laws.Number.{up_to_length, up_to_at}
 use Rattle.meaning.proofs.Laws.Table.{Is, Ext, is_ext, enter_all_ext}
-use Rattle.diagram.specs.State.{nodes, Alive, Known, Ready, After}
+use Rattle.diagram.specs.State.{nodes, Known, Ready, After}
 use Rattle.diagram.specs.declared.builder.Builder.{Builder}
+use Rattle.diagram.specs.declared.scratch.Scratch.{Scratch}
 use Rattle.diagram.proofs.Laws.Nodes.{nodes_of_length}
 use Rattle.diagram.proofs.Laws.Parts.{tree_stands}
-use Rattle.diagram.proofs.Laws.After.{after_free, after_known}
-use Rattle.term.specs.Row.{mark, BitIs, BitKnown, RowMeans, RowKnown}
+use Rattle.diagram.proofs.Laws.After.{after_known}
+use Rattle.term.specs.Row.{mark, BitIs, BitMeans, BitKnown, RowMeans, RowKnown}
 use Rattle.term.specs.declared.row.Row as Declared
 
 -- ---- one number
@@ -35,15 +36,15 @@ use Rattle.term.specs.declared.row.Row as Declared
 abbrev pub bit_at : List ℕ → ℕ → Bit
 bit_at cells a = cond (eqb a mark) unknown (known (tree_of cells a))
 
-pub bit_some : {cells w : List ℕ} {b : Builder} → Alive cells w b → (a : ℕ) → BitKnown b a
-    → b.full ≡ false → BitIs 128 (nodes cells b) a (bit_at cells a)
-bit_some {cells} {w} {b} alive a is free = go (eqb a mark) refl (is free)
+pub bit_some : {cells : List ℕ} {s : Scratch} {b : Builder} → Ready cells s b → (a : ℕ) → BitKnown b a
+    → BitMeans 128 cells b a (bit_at cells a)
+bit_some {cells} {s} {b} ready a is = go (eqb a mark) refl is
   where
     go : (s : Bool) → eqb a mark ≡ s → (a ≡ mark) ⊎ (a < b.used + 2)
-        → BitIs 128 (nodes cells b) a (cond s unknown (known (tree_of cells a)))
+        → BitMeans 128 cells b a (cond s unknown (known (tree_of cells a)))
     go true e h = eqb-true a mark e
     go false e (inl h) = absurd (eqb-false a mark e h)
-    go false e (inr h) = let stands = tree_stands (alive free) a h in (stands.is, stands.good)
+    go false e (inr h) = let stands = tree_stands ready a h in (stands.is, stands.good)
 
 is_below : (t : Tree) (s : Table) (a : ℕ) → Is s a t → a < length s + 2
 is_below (leaf true) s a h = omega arith
@@ -51,20 +52,16 @@ is_below (leaf false) s a h = omega arith
 is_below (node i d e) s a h = h.inside
 
 -- a diagram's number is a terminal's or a used node's
-pub is_used : (cells : List ℕ) (b : Builder) (a : ℕ) (t : Tree) → Is (nodes cells b) a t → a < b.used + 2
+pub is_used : (cells : List ℕ) (b : Builder) (a : ℕ) (t : Tree) → Is (nodes cells b) a t → Known b a
 is_used cells b a t is = omega (arith, is_below t (nodes cells b) a is, nodes_of_length cells b.used)
 
-pub not_mark : {cells w : List ℕ} {b : Builder} → Ready cells w b → (a : ℕ) → a < b.used + 2 → a ≢ mark
+pub not_mark : {cells : List ℕ} {s : Scratch} {b : Builder} → Ready cells s b → (a : ℕ) → Known b a → a ≢ mark
 not_mark ready a below is = omega (arith, ready.room, ready.small)
 
 pub known_unmarked : (b : Builder) (a : ℕ) → BitKnown b a → a ≢ mark → Known b a
-known_unmarked b a is ne free = ⊎_elim (λ e. absurd (ne e)) (λ below. below) (is free)
+known_unmarked b a is ne = ⊎_elim (λ e. absurd (ne e)) (λ below. below) is
 
-pub known_terminal : (b : Builder) (a : ℕ) → a < 2 → Known b a
-known_terminal b a small free = omega arith
-
-pub bit_known : (cells : List ℕ) (b : Builder) (n a : ℕ) (p : Bit)
-    → BitIs n (nodes cells b) a p → (a ≡ mark) ⊎ (a < b.used + 2)
+pub bit_known : (cells : List ℕ) (b : Builder) (n a : ℕ) (p : Bit) → BitMeans n cells b a p → BitKnown b a
 bit_known cells b n a (known t) is = inr (is_used cells b a t is.0)
 bit_known cells b n a unknown is = inl is
 
@@ -72,19 +69,13 @@ bit_ext : {s u : Table} (n a : ℕ) (p : Bit) → Ext s u → BitIs n s a p → 
 bit_ext n a (known t) ext is = (is_ext t a ext is.0, is.1)
 bit_ext n a unknown ext is = is
 
-pub after_bit : {cells w cells' w' : List ℕ} {b b' : Builder} {xs : List Tree} → After cells w b xs cells' w' b'
-    → (n a : ℕ) (p : Bit) → (b.full ≡ false → BitIs n (nodes cells b) a p)
-    → b'.full ≡ false → BitIs n (nodes cells' b') a p
-after_bit {cells} {b} {xs} after n a p is free =
-    rw (after.entered free) (bit_ext n a p (enter_all_ext xs (nodes cells b)) (is (after_free after free)))
+module _ {cells cells' : List ℕ} {s' : Scratch} {b b' : Builder} {xs : List Tree} (after : After cells b xs cells' s' b') where
+  pub after_bit : (n a : ℕ) (p : Bit) → BitMeans n cells b a p → BitMeans n cells' b' a p
+  after_bit n a p is = rw after.entered (bit_ext n a p (enter_all_ext xs (nodes cells b)) is)
 
-pub after_bit_known : {cells w cells' w' : List ℕ} {b b' : Builder} {xs : List Tree} → After cells w b xs cells' w' b'
-    → (a : ℕ) → BitKnown b a → BitKnown b' a
-after_bit_known {b} {b'} after a is free = go (is (after_free after free))
-  where
-    go : (a ≡ mark) ⊎ (a < b.used + 2) → (a ≡ mark) ⊎ (a < b'.used + 2)
-    go (inl e) = inl e
-    go (inr below) = let later : Known b' a = after_known after (λ before. below) in inr (later free)
+  pub after_bit_known : (a : ℕ) → BitKnown b a → BitKnown b' a
+  after_bit_known a (inl e) = inl e
+  after_bit_known a (inr below) = inr (after_known after {a = a} below)
 
 -- ---- a row
 
@@ -92,15 +83,15 @@ after_bit_known {b} {b'} after a is free = go (is (after_free after free))
 unfoldable pub row_of : List ℕ → Declared.Row → Row.Row
 row_of cells row = up_to (λ i. bit_at cells (get_or row.bits i 0)) row.width
 
-pub row_some : {cells w : List ℕ} {b : Builder} {row : Declared.Row} → Alive cells w b → RowKnown b row
+pub row_some : {cells : List ℕ} {s : Scratch} {b : Builder} {row : Declared.Row} → Ready cells s b → RowKnown b row
     → RowMeans 128 cells b row (row_of cells row)
 unfolding row_of
-row_some {cells} {w} {b} {row} alive is =
+row_some {cells} {s} {b} {row} ready is =
     record {
       long = up_to_length bit row.width;
       narrow = is.narrow;
-      bits = λ free i below.
-          rw (up_to_at bit row.width i unknown below) (bit_some alive (get_or row.bits i 0) (is.each i below) free);
+      bits = λ i below.
+          rw (up_to_at bit row.width i unknown below) (bit_some ready (get_or row.bits i 0) (is.each i below));
     }
   where
     bit : ℕ → Bit
@@ -111,16 +102,14 @@ pub row_known : {n : ℕ} {cells : List ℕ} {b : Builder} {row : Declared.Row} 
 row_known {n} {cells} {b} {row} {r} means =
     record {
       narrow = means.narrow;
-      each = λ i below free.
-          bit_known cells b n (get_or row.bits i 0) (get_or r i unknown) (means.bits free i below);
+      each = λ i below. bit_known cells b n (get_or row.bits i 0) (get_or r i unknown) (means.bits i below);
     }
 
-pub after_row : {n : ℕ} {cells w cells' w' : List ℕ} {b b' : Builder} {xs : List Tree} {row : Declared.Row} {r : Row.Row}
-    → After cells w b xs cells' w' b' → RowMeans n cells b row r → RowMeans n cells' b' row r
-after_row {n} {row} {r} after means =
+pub after_row : {n : ℕ} {cells cells' : List ℕ} {s' : Scratch} {b b' : Builder} {xs : List Tree} {row : Declared.Row}
+    {r : Row.Row} → After cells b xs cells' s' b' → RowMeans n cells b row r → RowMeans n cells' b' row r
+after_row {n} {row = row} {r} after means =
     record {
       long = means.long;
       narrow = means.narrow;
-      bits = λ free i below.
-          after_bit after n (get_or row.bits i 0) (get_or r i unknown) (λ before. means.bits before i below) free;
+      bits = λ i below. after_bit after n (get_or row.bits i 0) (get_or r i unknown) (means.bits i below);
     }

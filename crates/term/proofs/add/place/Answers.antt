@@ -1,79 +1,71 @@
 -- `add::place` meets its contract, by a law for each path.
-use Rattle.std.proofs.Common.{length, refl, rules, ◌<◌}
-use Rattle.term.proofs.Laws.Rows.{known_unmarked}
-use Rattle.term.proofs.Laws.Count.{exceeds_full, exceeds_over, exceeds_not}
-use Rattle.term.proofs.Laws.OnePlace.{placed_left, placed_right, placed_over, placed_on, cut_tallying}
-use Rattle.term.proofs.Laws.OnePlace.{sum_some, place_countable, place_carries, place_tallies}
+use Rattle.std.proofs.Common.{arith, rules}
+use Rattle.std.proofs.lemmas.Result.{err_from_is_err_and}
+use Rattle.term.proofs.Laws.Bit.{equal, unequal}
+use Rattle.term.proofs.Laws.OnePlace.{place_left, place_right, place_lacks, place_over, place_on, carry_lacks}
+use Rattle.term.proofs.Laws.OnePlace.{place_countable, place_ready, place_known, place_tallies}
 use Rattle.term.proofs.add.place.Goals as goal
 
 -- an operand bit is unknown
-pub returns-then-x : goal.returns-then-x
-returns-then-x c = (
-  λ n d sums p q ar br le top means is_x is_y.
-      rw c.cut.ensures (placed_left ar br c.requires.0.alive is_x c.if-x.true),
-  cut_tallying c.cut.result (rw c.cut.ensures refl),
-)
+pub returns-then-eq-clause-place : goal.returns-then-eq-clause-place
+returns-then-eq-clause-place g c =
+    place_left c.args.limit c.requires.summing c.args.x c.args.y c.args.top (equal c.if-eq.ensures)
 
-pub returns-then-y : goal.returns-then-y
-returns-then-y c = (
-  λ n d sums p q ar br le top means is_x is_y.
-      rw c.cut-then-y.ensures (placed_right ar br c.requires.0.alive is_y c.if-y.true),
-  cut_tallying c.cut-then-y.result (rw c.cut-then-y.ensures refl),
-)
+pub returns-then-eq-2-clause-place : goal.returns-then-eq-2-clause-place
+returns-then-eq-2-clause-place g c =
+    place_right c.args.limit c.requires.summing c.args.x c.args.y c.args.top (equal c.if-eq-2.ensures)
 
--- the table is full
-pub returns-then-at : goal.returns-then-at
-returns-then-at c =
-    let narrow = c.requires.0.narrow in
-    let inside : c.args.s.count < length c.args.s.bits = search rules in (
-      λ n d sums p q ar br le top means is_x is_y.
-          rw c.cut-then-at.ensures
-          (placed_over _ le ar br c.if-x.false c.if-y.false means inside c.sum_bit-made.ensures is_x is_y
-          (exceeds_full c.if-at.true)),
-      cut_tallying c.cut-then-at.result (rw c.cut-then-at.ensures refl),
-    )
+-- the sum bit lacks room
+pub returns-in_err-made-clause-place : goal.returns-in_err-made-clause-place
+returns-in_err-made-clause-place g c =
+    rw (err_from_is_err_and c.from_residual.result c.from_residual.ensures.1).1
+    (place_lacks c.args.limit c.requires.summing c.args.x c.args.y c.args.top (unequal c.if-eq.ensures) (unequal c.if-eq-2.ensures)
+    c.sum_bit.new.t c.sum_bit.new.s c.in_err-made.field-0.0 c.in_err-made.ensures)
 
 pub walk-tally-requires : goal.walk-tally-requires
-walk-tally-requires c =
-    let narrow = c.requires.0.narrow in
-    let inside : c.args.s.count < length c.args.s.bits = search rules in
-    let known_x = known_unmarked c.args.s.at _ c.requires.1.0 c.if-x.false in
-    let known_y = known_unmarked c.args.s.at _ c.requires.1.1 c.if-y.false in
-    let some = sum_some c.requires.0 known_x known_y c.sum_bit-made.ensures in
-    place_countable c.requires.0 some inside c.if-at.false
+walk-tally-requires g c =
+    let countable =
+    place_countable c.args.limit c.requires.summing c.args.x c.args.y c.args.top (unequal c.if-eq.ensures)
+    (unequal c.if-eq-2.ensures) c.sum_bit.new.t c.sum_bit.new.s c.in_ok-made.made c.in_ok-made.ensures (search rules) c.requires.known in
+    (omega arith, (rw c.number.ensures countable, c.requires.marks))
 
 -- too many nodes
-pub returns-then-limit-tally : goal.returns-then-limit-tally
-returns-then-limit-tally c =
-    let narrow = c.requires.0.narrow in
-    let inside : c.args.s.count < length c.args.s.bits = search rules in (
-      λ n d sums p q ar br le top means is_x is_y.
-          rw c.cut-then-limit-tally.ensures
-          (placed_over _ le ar br c.if-x.false c.if-y.false means inside c.sum_bit-made.ensures is_x is_y
-          (exceeds_over c.walk-tally.ensures c.if-limit-tally.true)),
-      cut_tallying c.cut-then-limit-tally.result (rw c.cut-then-limit-tally.ensures refl),
-    )
+pub returns-then-too_many-clause-place : goal.returns-then-too_many-clause-place
+returns-then-too_many-clause-place g c =
+    place_over c.args.limit c.requires.summing c.args.x c.args.y c.args.top (unequal c.if-eq.ensures) (unequal c.if-eq-2.ensures)
+    c.sum_bit.new.t c.sum_bit.new.s c.in_ok-made.made c.in_ok-made.ensures (search rules) (rw c.number.ensures at c.walk-tally.ensures)
+    c.if-too_many.true
 
-pub carry_bit-next-requires : goal.carry_bit-next-requires
-carry_bit-next-requires c =
-    let known_x = known_unmarked c.args.s.at _ c.requires.1.0 c.if-x.false in
-    let known_y = known_unmarked c.args.s.at _ c.requires.1.1 c.if-y.false in
-    let some = sum_some c.requires.0 known_x known_y c.sum_bit-made.ensures in
-    place_carries c.requires.0 some known_x known_y
+pub carry_bit-requires-clause-ready : goal.carry_bit-requires-clause-ready
+carry_bit-requires-clause-ready g c =
+    place_ready c.args.limit c.requires.summing c.args.x c.args.y c.args.top (unequal c.if-eq.ensures) (unequal c.if-eq-2.ensures)
+    c.sum_bit.new.t c.sum_bit.new.s c.in_ok-made.made c.in_ok-made.ensures (search rules) c.requires.known
+
+pub carry_bit-requires-clause-known : goal.carry_bit-requires-clause-known
+carry_bit-requires-clause-known g c =
+    place_known c.args.limit c.requires.summing c.args.x c.args.y c.args.top (unequal c.if-eq.ensures) (unequal c.if-eq-2.ensures)
+    c.sum_bit.new.t c.sum_bit.new.s c.in_ok-made.made c.in_ok-made.ensures (search rules) c.requires.known
+
+-- the next carry lacks room
+pub returns-in_err-next-clause-place : goal.returns-in_err-next-clause-place
+returns-in_err-next-clause-place g c =
+    rw (err_from_is_err_and c.from_residual-in_err-next.result c.from_residual-in_err-next.ensures.1).1
+    (carry_lacks c.args.limit c.requires.summing c.args.x c.args.y c.args.top (unequal c.if-eq.ensures) (unequal c.if-eq-2.ensures)
+    c.sum_bit.new.t c.sum_bit.new.s c.in_ok-made.made c.in_ok-made.ensures (search rules) (rw c.number.ensures at c.walk-tally.ensures)
+    c.if-too_many.false c.carry_bit.new.t c.carry_bit.new.s c.in_err-next.field-0.0 c.in_err-next.ensures)
 
 -- the bit is kept
-pub returns : goal.returns
-returns c =
-    let narrow = c.requires.0.narrow in
-    let inside : c.args.s.count < length c.args.s.bits = search rules in
-    let known_x = known_unmarked c.args.s.at _ c.requires.1.0 c.if-x.false in
-    let known_y = known_unmarked c.args.s.at _ c.requires.1.1 c.if-y.false in
-    let some = sum_some c.requires.0 known_x known_y c.sum_bit-made.ensures in
-    let fits = c.if-limit-tally.false in (
-      λ n d sums p q ar br le top means is_x is_y.
-          placed_on _ le ar br c.if-x.false c.if-y.false means inside c.sum_bit-made.ensures is_x is_y
-          c.if-at.false (exceeds_not c.walk-tally.ensures fits) top c.carry_bit-next.ensures,
-      λ _.
-          place_tallies c.requires.0 some inside known_x known_y c.carry_bit-next.ensures
-          (c.walk-tally.ensures.tallies fits),
-    )
+pub returns-clause-place : goal.returns-clause-place
+returns-clause-place g c =
+    rw c.number.ensures
+    (place_on c.args.limit c.requires.summing c.args.x c.args.y c.args.top (unequal c.if-eq.ensures) (unequal c.if-eq-2.ensures)
+    c.sum_bit.new.t c.sum_bit.new.s c.in_ok-made.made c.in_ok-made.ensures (search rules) (rw c.number.ensures at c.walk-tally.ensures)
+    c.if-too_many.false c.carry_bit.new.t c.carry_bit.new.s c.in_ok-next.next c.in_ok-next.ensures)
+
+pub returns-clause-tally : goal.returns-clause-tally
+returns-clause-tally g c =
+    rw c.number.ensures
+    (place_tallies c.args.limit c.requires.summing c.args.x c.args.y c.args.top (unequal c.if-eq.ensures)
+    (unequal c.if-eq-2.ensures) c.sum_bit.new.t c.sum_bit.new.s c.in_ok-made.made c.in_ok-made.ensures (search rules) c.requires.known
+    c.in_ok-next.next c.carry_bit.new.t c.carry_bit.new.s c.in_ok-next.ensures
+    (rw c.number.ensures at (c.walk-tally.ensures.tallies c.if-too_many.false)))

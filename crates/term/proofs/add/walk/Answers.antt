@@ -1,17 +1,22 @@
 -- `add::walk` meets its contract, by a law for each step of the loop.
-use Rattle.term.proofs.Laws.Count.{walk_start, walk_next, told_counted, visit_room}
+use Rattle.std.proofs.Common.{arith, ◌≡◌}
+use Rattle.term.proofs.Laws.Count.{told_few, walk_start, walk_next, told_counted, visit_room}
 use Rattle.term.proofs.add.walk.Goals as goal
 
+pub returns-then-b-limit : goal.returns-then-b-limit
+returns-then-b-limit g c = told_few c.requires.countable c.if-b-limit.true
+
 pub loop-i-init : goal.loop-i-init
-loop-i-init c = walk_start c.requires c.clear.ensures
+loop-i-init g c = walk_start c.requires.countable c.clear.ensures
 
 pub visit-nodes-requires : goal.visit-nodes-requires
-visit-nodes-requires c = (visit_room c.requires c.clear.auto.marks c.loop-i.invariant c.loop-i-test.true, c.requires.low)
+visit-nodes-requires g c = (omega arith, rw c.new.ensures (visit_room c.requires.countable c.loop-i-test.true c.requires.marks))
 
 pub loop-i-preserved : goal.loop-i-preserved
-loop-i-preserved c =
-    walk_next c.requires.laid.single c.loop-i.invariant c.loop-i-test.true c.visit-nodes.auto.marks
-    c.visit-nodes.ensures
+loop-i-preserved g c =
+    walk_next c.requires.countable.laid.single c.loop-i.invariant c.loop-i-test.true (rw c.new.ensures at c.visit-nodes.ensures)
 
 pub returns : goal.returns
-returns c = told_counted c.requires c.loop-i.invariant c.loop-i-test.false
+returns g c =
+    let end : c.loop-i.i ≡ c.args.k = omega (arith, c.loop-i.invariant.inside) in
+    told_counted (rw end at c.loop-i.invariant)
