@@ -2,7 +2,6 @@
 pub mod Work
 pub mod Pair
 pub mod Sofar
-pub mod Quantify
 pub mod Compare
 pub mod Rowed
-pub mod Judge
+pub mod Quantify

@@ -1,4 +1,3 @@
--- What the promises of this crate say, beyond document 01's own definitions.
+-- What the promises of this crate say, beyond the definitions of `meaning`.
 pub mod Pair
-pub mod Levels
 pub mod Compare

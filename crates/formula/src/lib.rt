@@ -1,8 +1,8 @@
-// Formulas: pairs of diagrams, must and may, one function an operation, each returning a pair.
-//
-// pair      the pair; not, and, or
-// compare   equal, unsigned and signed ≤
-// quantify  exists and forall
+//! Formulas: pairs of diagrams, must and may, one function an operation, each returning a pair.
+//!
+//! pair      the pair; not, and, or
+//! compare   equal, unsigned and signed ≤
+//! quantify  exists and forall
 #![tactic(auto)]
 
 pub mod compare;

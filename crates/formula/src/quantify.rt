@@ -1,53 +1,55 @@
-// Exists and forall: one step a bit, from the top bit down.
-ghost use Rattle.std.specs.Prelude.{ℕ, ◌≤◌};
+//! Exists and forall: one step a bit, from the top bit down.
+ghost use Rattle.std.specs.Prelude.{ℕ, ◌≤◌, ◌<◌, reverse, All};
 ghost use Rattle.meaning.specs.Diagram.{Tree};
 ghost use Rattle.meaning.specs.Formula;
-ghost use Rattle.diagram.specs.State.{Alive, Known, chooser};
-ghost use Rattle.formula.specs.Levels.{LevelsFit, level_list};
-ghost use Rattle.formula.specs.Pair.{TreeMeans, MakesTree, PairKnown, PairMeans, Judges};
+ghost use Rattle.diagram.specs.State.{Ready, Known, Works, chooser};
+ghost use Rattle.formula.specs.Pair.{TreeMeans, PairKnown, PairMeans};
 
-use crate::pair::{Judged, Pair, must_may};
-use diagram::builder::{Builder, Made};
+use crate::pair::{Pair, must_may};
+use diagram::builder::{Builder, Made, NoRoom};
+use diagram::number::Diagram;
+use diagram::scratch::Scratch;
 use diagram::table::Cell;
 
-// A variable's levels, bit 0's first.
-#[derive(Clone, Copy)]
-pub struct Levels {
-    pub of: [u32; 32],
-    pub count: usize,
-}
-
-// The or (and) of both choices at each of the levels, the last one's first.
-fn chain(b: Builder, t: &mut [Cell], w: &mut [u32], every: bool, levels: Levels, a: u32) -> Made
-    requires { Alive t.old w.old b × (LevelsFit levels × Known b a) }
-    ensures { (n : ℕ) (x : Tree) → n ≤ 128 → TreeMeans n t.old b a x → MakesTree n t.old w.old b (Formula.quantify_all n (chooser every) (level_list levels) x) t.new w.new result.at result.number }
+// The or (and, where `every`) of both choices at each of the levels, the last one's first.
+fn chain(
+    b: Builder,
+    t: &mut [Cell],
+    s: &mut Scratch,
+    every: bool,
+    levels: &[u32],
+    a: Diagram,
+) -> Result<Made<Diagram>, NoRoom>
+    requires ready { Ready t.old s.old b }
+    requires levels { All (λ l. l < 128) levels.now }
+    requires known { Known b a }
+    ensures { (n : ℕ) (x : Tree) → n ≤ 128 → TreeMeans n t.old b a x →
+        Works (TreeMeans n) t.old b (Formula.quantify_all n (chooser every) (reverse levels.now) x) t.new s.new result }
 {
-    let mut at = b;
-    let mut r = a;
-    let mut i = levels.count;
-    while 0 < i {
-        let made = at.quantify(t, w, every, levels.of[i - 1], r);
-        at = made.at;
-        r = made.number;
-        i -= 1;
+    let mut so_far = Made { at: b, value: a };
+    for level in levels.iter().rev() {
+        so_far = so_far.at.quantify(t, s, every, *level, so_far.value)?;
     }
-    Made { at, number: r }
+    Ok(so_far)
 }
 
-// The must chain, then the may chain.
+/// Exists, or forall where `every`, of the variable whose bits have these levels, bit 0's first: the must chain, then the may
+/// chain. `NoRoom` comes exactly where these need more nodes than there are slots.
 pub fn quantified(
     b: Builder,
     t: &mut [Cell],
-    w: &mut [u32],
+    s: &mut Scratch,
     every: bool,
-    levels: Levels,
+    levels: &[u32],
     p: Pair,
-) -> Judged
-    requires { Alive t.old w.old b × (LevelsFit levels × PairKnown b p) }
-    ensures { (n : ℕ) (x : Formula.Pair) → n ≤ 128 → PairMeans n t.old b p x → Judges n t.old w.old b (Formula.quantified n (chooser every) (level_list levels) x) t.new w.new result.at result.pair }
+) -> Result<Made<Pair>, NoRoom>
+    requires ready { Ready t.old s.old b }
+    requires levels { All (λ l. l < 128) levels.now }
+    requires known { PairKnown b p }
+    ensures { (n : ℕ) (x : Formula.Pair) → n ≤ 128 → PairMeans n t.old b p x →
+        Works (PairMeans n) t.old b (Formula.quantified n (chooser every) (reverse levels.now) x) t.new s.new result }
 {
-    let must = chain(b, t, w, every, levels, p.must);
-    let after = must.at;
-    let may = chain(after, t, w, every, levels, p.may);
-    must_may(must.number, may)
+    let must = chain(b, t, s, every, levels, p.must)?;
+    let may = chain(must.at, t, s, every, levels, p.may)?;
+    Ok(must_may(must.value, may))
 }

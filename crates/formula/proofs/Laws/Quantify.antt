@@ -1,112 +1,96 @@
 -- The chain of quantifier steps, from the top bit down.
-use Prim.Native.Nat.{ℕ, suc, ◌-◌, ◌≤◌, ◌<◌}
+--
+--   chained_start, chained_ready, chained_next, chained_lacks   nothing is done yet, a step can be done, is done, lacks room
+--   reverse_down_to                                             the levels as `meaning` lists them
+use Prim.Native.Nat.{ℕ, zero, suc, ◌-◌, ◌≤◌, ◌<◌}
 use native.Mathlib.Omega.{arith}
-use mathlib.Core.Path.{◌≡◌, refl, ap, ◌∙◌}
+use mathlib.Core.Path.{◌≡◌, refl, sym, ap, ◌∙◌}
 use mathlib.Core.Bool.{Bool}
-use mathlib.Core.List.{List}
-use lib.ListN.{length}
+use mathlib.Core.List.{List, [], ◌∷◌}
+use Rattle.std.specs.Prelude.{Ok, Err, reverse, length, get_or}
+use Rattle.std.specs.List.{push}
+use Rattle.std.proofs.lemmas.List.{reverse-append, get_or-reverse, length-reverse, ext_get_or}
 use Rattle.meaning.specs.Diagram.{Tree}
-use Rattle.meaning.specs.Step.{quantify}
+use Rattle.meaning.specs.Step.{◌>>=◌, quantify}
 use Rattle.meaning.specs.Lent.{tree_of}
-use Rattle.meaning.specs.Formula
 use Rattle.meaning.specs.Formula.{quantify_all}
-use Rattle.diagram.specs.State.{Alive, Known, chooser}
+use Rattle.meaning.specs.Run.{down_to}
+use Rattle.diagram.specs.State.{Ready, Known, Means, Lacks, Does, chooser}
 use Rattle.diagram.specs.declared.builder.Builder.{Builder}
 use Rattle.diagram.specs.declared.builder.Made.{Made}
-use Rattle.diagram.proofs.Laws.After.{after_known}
-use Rattle.diagram.proofs.Laws.Quantify.{Quantifies}
-use Rattle.formula.specs.Levels.{LevelsFit, level_at, levels_down, level_list}
-use Rattle.formula.specs.Pair.{TreeMeans, MakesTree, PairKnown, PairMeans, Judges}
-use Rattle.formula.specs.declared.quantify.Levels.{Levels}
-use Rattle.formula.specs.declared.pair.Judged.{Judged}
-use Rattle.formula.specs.declared.pair.Pair as Declared
-use Rattle.formula.proofs.Laws.Work.{some_tree, tree_known, tree_later, quantify_makes}
-use Rattle.formula.proofs.Laws.Pair.{Joined, judges_both}
-use Rattle.formula.proofs.Laws.Sofar.{Sofar, sofar_start, sofar_next, sofar_done}
+use Rattle.diagram.specs.declared.builder.NoRoom.{NoRoom}
+use Rattle.diagram.specs.declared.scratch.Scratch.{Scratch}
+use Rattle.formula.specs.Pair.{TreeMeans}
+use Rattle.formula.proofs.Laws.Work.{some_tree, tree_known, quantify_makes}
+use Rattle.formula.proofs.Laws.Sofar.{Sofar, sofar_start, sofar_next, sofar_lacks}
 
--- what the chain does
-abbrev pub Chains : List ℕ → List ℕ → Builder → Bool → Levels → ℕ → List ℕ → List ℕ → Builder → ℕ → Type 0
-Chains cells w b every levels a cells' w' b' r =
-    (n : ℕ) (x : Tree) → n ≤ 128 → TreeMeans n cells b a x →
-    MakesTree n cells w b (quantify_all n (chooser every) (level_list levels) x) cells' w' b' r
-
--- the loop: the first i bits are left, r is the number made so far
-pub record Chained (cells w : List ℕ) (b : Builder) (every : Bool) (levels : Levels) (a : ℕ)
-    (cells' w' : List ℕ) (b' : Builder) (r i : ℕ) : Type 0 where
-  pub within : i ≤ levels.count
-  pub kept : length w' ≡ length w
-  pub alive : Alive cells w b
-  pub known : Known b a
-  pub fit : LevelsFit levels
+-- the loop: these levels, the last one first, are left
+pub record Chained (cells : List ℕ) (b : Builder) (every : Bool) (levels : List ℕ) (a : ℕ) (cells' : List ℕ) (s' : Scratch)
+    (made : Made ℕ) (left : List ℕ) : Type 0 where
   pub sofar : (n : ℕ) (x : Tree) → n ≤ 128 → TreeMeans n cells b a x
-      → Sofar n cells w b (quantify_all n (chooser every) (level_list levels) x) cells' w' b' r
-      (quantify_all n (chooser every) (levels_down levels i))
+      → Sofar n cells b (quantify_all n (chooser every) (reverse levels) x) cells' s' made
+      (quantify_all n (chooser every) (reverse left))
 
-pub chained_start : {cells w : List ℕ} {b : Builder} (every : Bool) (levels : Levels) (a : ℕ) → Alive cells w b
-    → LevelsFit levels → Known b a → Chained cells w b every levels a cells w b a levels.count
-chained_start every levels a alive fit known =
-    record {
-      within = omega arith;
-      kept = refl;
-      alive = alive;
-      known = known;
-      fit = fit;
-      sofar = λ n x le means. sofar_start (quantify_all n (chooser every) (level_list levels)) alive means;
-    }
+pub chained_start : {cells : List ℕ} {s : Scratch} {b : Builder} (every : Bool) (levels : List ℕ) (a : ℕ) → Ready cells s b
+    → Chained cells b every levels a cells s (record { at = b; value = a }) levels
+chained_start every levels a ready =
+    record { sofar = λ n x le means. sofar_start (quantify_all n (chooser every) (reverse levels)) ready means }
 
-module _ {cells w : List ℕ} {b : Builder} {every : Bool} {levels : Levels} {a : ℕ}
-    {cells' w' : List ℕ} {b' : Builder} {r i : ℕ} (chained : Chained cells w b every levels a cells' w' b' r i) where
-  some : Sofar 128 cells w b (quantify_all 128 (chooser every) (level_list levels) (tree_of cells a)) cells' w' b' r
-      (quantify_all 128 (chooser every) (levels_down levels i))
-  some = chained.sofar 128 (tree_of cells a) (omega arith) (some_tree a chained.alive chained.known)
+-- a step can be done
+pub record Steppable (cells : List ℕ) (s : Scratch) (made : Made ℕ) : Type 0 where
+  pub ready : Ready cells s made.at
+  pub known : Known made.at made.value
 
-  -- the next step can be done
-  pub chained_ready : 0 < i → Alive cells' w' b' × ((level_at levels (i - 1) < 128) × Known b' r)
-  chained_ready more =
-      let before : i - 1 < levels.count = omega (arith, chained.within) in
-      (some.makes.after.ready, (chained.fit.low (i - 1) before, tree_known some.makes.means))
+module _ {cells : List ℕ} {b : Builder} {every : Bool} {levels : List ℕ} {a : ℕ} {c₁ : List ℕ} {s₁ : Scratch} {made : Made ℕ}
+    {left : List ℕ} (chained : Chained cells b every levels a c₁ s₁ made left) where
+  pub chained_ready : {s : Scratch} → Ready cells s b → Known b a → Steppable c₁ s₁ made
+  chained_ready ready known =
+      let does = (chained.sofar 128 (tree_of cells a) (omega arith) (some_tree a ready known)).does in
+      record { ready = does.after.ready; known = tree_known does.means }
 
-  pub chained_kept : length cells' ≡ length cells
-  chained_kept = some.makes.after.kept
+  -- the last of the levels left is l
+  module _ (rest : List ℕ) (l : ℕ) (last : left ≡ push rest l) where
+    splits : (n : ℕ) (y : Tree)
+        → quantify_all n (chooser every) (reverse left) y
+        ≡ ◌>>=◌ (quantify n (chooser every) l y) (quantify_all n (chooser every) (reverse rest))
+    splits n y =
+        ap (λ ls. quantify_all n (chooser every) ls y) (ap reverse last ∙ reverse-append rest (l ∷ []))
 
-  pub chained_next : {c₂ w₂ : List ℕ} {b₂ : Builder} {r₂ : ℕ} → 0 < i
-      → Quantifies cells' w' b' every (level_at levels (i - 1)) r c₂ w₂ b₂ r₂ → length w₂ ≡ length w'
-      → Chained cells w b every levels a c₂ w₂ b₂ r₂ (i - 1)
-  chained_next more does same =
-      let next : i ≡ suc (i - 1) = omega arith in
-      let l = level_at levels (i - 1) in
-      record {
-        within = omega (arith, chained.within);
-        kept = same ∙ chained.kept;
-        alive = chained.alive;
-        known = chained.known;
-        fit = chained.fit;
-        sofar = λ n x le means.
-            sofar_next (quantify n (chooser every) l) (quantify_all n (chooser every) (levels_down levels (i - 1)))
-            (chained.sofar n x le means) (λ y is_y. quantify_makes every l does le is_y)
-            (λ y. ap (λ k. quantify_all n (chooser every) (levels_down levels k) y) next);
-      }
+    pub chained_next : {c₂ : List ℕ} {s₂ : Scratch} {next : Made ℕ}
+        → ((y : Tree) → Means c₁ made.at made.value y → Does Means c₁ made.at (quantify 128 (chooser every) l y) c₂ s₂ next)
+        → Chained cells b every levels a c₂ s₂ next rest
+    chained_next {c₂} {s₂} {next} does =
+        record {
+          sofar = λ n x le means.
+              sofar_next (chained.sofar n x le means) (quantify n (chooser every) l)
+              (quantify_all n (chooser every) (reverse rest)) (splits n)
+              (λ y is_y. quantify_makes c₂ s₂ every l (Ok next) does le is_y);
+        }
 
-  pub chained_done : i ≡ 0 → Chains cells w b every levels a cells' w' b' r
-  chained_done none n x le means =
-      sofar_done (chained.sofar n x le means)
-      (λ y. ap (λ k. quantify_all n (chooser every) (levels_down levels k) y) none)
+    pub chained_lacks : (c₂ : List ℕ) (s₂ : Scratch) (e : NoRoom)
+        → ((y : Tree) → Means c₁ made.at made.value y → Lacks c₁ made.at (quantify 128 (chooser every) l y).steps c₂)
+        → (n : ℕ) (x : Tree) → n ≤ 128 → TreeMeans n cells b a x
+        → Lacks cells b (quantify_all n (chooser every) (reverse levels) x).steps c₂
+    chained_lacks c₂ s₂ e lacks n x le means =
+        sofar_lacks (chained.sofar n x le means) (quantify n (chooser every) l)
+        (quantify_all n (chooser every) (reverse rest)) (splits n)
+        (λ y is_y. quantify_makes c₂ s₂ every l (Err e) lacks le is_y)
 
--- ---- the must chain, then the may chain
+-- ---- the levels, from the top bit down, as `meaning` lists them
 
-module _ {cells w c₁ w₁ : List ℕ} {b b₁ : Builder} (every : Bool) (levels : Levels) (p : Declared.Pair) {must : ℕ}
-    (first : Chains cells w b every levels p.must c₁ w₁ b₁ must) where
-  -- the may chain can be done
-  pub quantified_ready : Alive cells w b → PairKnown b p → Alive c₁ w₁ b₁ × Known b₁ p.may
-  quantified_ready alive known =
-      let after = (first 128 (tree_of cells p.must) (omega arith) (some_tree p.must alive known.must)).after in
-      (after.ready, after_known after known.may)
+down_to_length : (f : ℕ → ℕ) (n : ℕ) → length (down_to f n) ≡ n
+down_to_length f zero = refl
+down_to_length f (suc n) = ap suc (down_to_length f n)
 
-  pub quantified_judges : {c₂ w₂ : List ℕ} {may : Made} {r : Judged}
-      → Chains c₁ w₁ b₁ every levels p.may c₂ w₂ may.at may.number → Joined must may r
-      → (n : ℕ) (x : Formula.Pair) → n ≤ 128 → PairMeans n cells b p x
-      → Judges n cells w b (Formula.quantified n (chooser every) (level_list levels) x) c₂ w₂ r.at r.pair
-  unfolding Formula.quantified
-  quantified_judges second is n x le means =
-      let made = first n x.must le means.must in
-      judges_both le made (second n x.may le (tree_later means.may le made.after)) is
+down_to_at : (f : ℕ → ℕ) (n k : ℕ) → k < n → get_or (down_to f n) k 0 ≡ f (n - 1 - k)
+down_to_at f (suc n) zero below = ap f (omega arith)
+down_to_at f (suc n) (suc k) below = down_to_at f n k (omega arith) ∙ ap f (omega arith)
+down_to_at f zero k below = absurd (omega arith)
+
+pub reverse_down_to : (f : ℕ → ℕ) (xs : List ℕ) → ((i : ℕ) → i < length xs → get_or xs i 0 ≡ f i)
+    → reverse xs ≡ down_to f (length xs)
+reverse_down_to f xs each =
+    ext_get_or 0 (reverse xs) (down_to f (length xs)) (length-reverse xs ∙ sym (down_to_length f (length xs)))
+    (λ k below.
+    let inside : k < length xs = omega (arith, length-reverse xs) in
+    get_or-reverse xs k 0 inside ∙ each (length xs - 1 - k) (omega arith) ∙ sym (down_to_at f (length xs) k inside))

@@ -1,140 +1,107 @@
 -- Numbers that stand for diagrams over n levels, and single steps.
 --
---   some_tree     a known number stands for some diagram; with it a call's promise says that the state stays alive
---   step_makes    one step by a truth table; step_named: by the function that the table is of
---   full_makes    in a full table any work counts as done: nothing is asked any more
+--   some_tree    a known number stands for some diagram; with it a call's promise says that the next state is ready
+--   step_makes   one step by a truth table; step_named: by the function that the table is of
 use Prim.Native.Nat.{ℕ, ◌≤◌}
 use native.Mathlib.Omega.{arith}
-use mathlib.Core.Path.{◌≡◌, refl, sym, ap, subst, ◌∙◌}
-use mathlib.Core.Bool.{Bool, true, false, true≢false}
-use mathlib.Core.List.{List, [], ◌∷◌}
+use mathlib.Core.Path.{refl, subst}
+use mathlib.Core.Bool.{Bool}
+use mathlib.Core.List.{List}
+use Rattle.std.specs.Prelude.{Result, Ok, Err}
 use Rattle.meaning.specs.Number.{digit}
 use Rattle.meaning.specs.Diagram.{Tree, leaf}
-use Rattle.meaning.specs.Table.{enter_all}
-use Rattle.meaning.specs.Step.{Function, Work, done, ◌>>=◌, step, quantify, is_and, is_or}
+use Rattle.meaning.specs.Step.{Function, take, step, quantify}
 use Rattle.meaning.specs.Lent.{tree_of}
 use Rattle.meaning.proofs.Laws.Shape.{Good}
+use Rattle.meaning.proofs.Laws.Table.{is_ext, enter_all_ext}
 use Rattle.meaning.proofs.Laws.Diagram.{ok_wider, step_good, quantify_good}
 use Rattle.diagram.specs.Function.{table_of}
-use Rattle.diagram.specs.State.{Alive, Known, Means, After, Gives, nodes, chooser}
+use Rattle.diagram.specs.State.{Ready, Known, Means, After, Does, Works, nodes, chooser}
 use Rattle.diagram.specs.declared.builder.Builder.{Builder}
-use Rattle.diagram.proofs.Laws.After.{after_nothing, after_then, after_free, after_means, after_same}
+use Rattle.diagram.specs.declared.builder.Made.{Made}
+use Rattle.diagram.specs.declared.builder.NoRoom.{NoRoom}
+use Rattle.diagram.specs.declared.scratch.Scratch.{Scratch}
 use Rattle.diagram.proofs.Laws.Parts.{tree_stands}
-use Rattle.diagram.proofs.Laws.Step.{Steps}
-use Rattle.diagram.proofs.Laws.Quantify.{Quantifies}
-use Rattle.term.proofs.Laws.Levels.{Tabled, table_function, step_levels, quantify_levels, and_table, or_table}
+use Rattle.term.proofs.Laws.Levels.{Tabled, table_function, step_levels, quantify_levels}
 use Rattle.term.proofs.Laws.Rows.{is_used}
-use Rattle.formula.specs.Pair.{TreeMeans, MakesTree}
+use Rattle.formula.specs.Pair.{TreeMeans}
 
 -- ---- numbers
 
 module _ {n : ℕ} {cells : List ℕ} {b : Builder} {a : ℕ} {x : Tree} (means : TreeMeans n cells b a x) where
   -- among the builder's 128 levels
   pub tree_means : n ≤ 128 → Means cells b a x
-  tree_means le free = record { is = means.is free; good = ok_wider 0 n 128 x le (means.good free) }
+  tree_means le = record { is = means.is; good = ok_wider 0 n 128 x le means.good }
 
   pub tree_known : Known b a
-  tree_known free = is_used cells b a x (means.is free)
+  tree_known = is_used cells b a x means.is
 
   -- some steps later
-  pub tree_later : {w cells' w' : List ℕ} {b' : Builder} {xs : List Tree} → n ≤ 128 → After cells w b xs cells' w' b'
+  pub tree_later : {cells' : List ℕ} {s' : Scratch} {b' : Builder} {xs : List Tree} → After cells b xs cells' s' b'
       → TreeMeans n cells' b' a x
-  tree_later le after =
-      record {
-        is = λ free. (after_means after (tree_means le) free).is;
-        good = λ free. means.good (after_free after free);
-      }
+  tree_later {xs = xs} after =
+      record { is = rw after.entered (is_ext x a (enter_all_ext xs (nodes cells b)) means.is); good = means.good }
 
 -- a terminal
 pub leaf_means : (n : ℕ) (cells : List ℕ) (b : Builder) (v : Bool) → TreeMeans n cells b (digit v) (leaf v)
-leaf_means n cells b v = record { is = λ free. refl; good = λ free. tt }
+leaf_means n cells b v = record { is = refl; good = tt }
 
 -- a known number stands for the diagram that its nodes spell
-pub some_tree : {cells w : List ℕ} {b : Builder} (a : ℕ) → Alive cells w b → Known b a
+pub some_tree : {cells : List ℕ} {s : Scratch} {b : Builder} (a : ℕ) → Ready cells s b → Known b a
     → TreeMeans 128 cells b a (tree_of cells a)
-some_tree a alive known =
-    record {
-      is = λ free. (tree_stands (alive free) a (known free)).is;
-      good = λ free. (tree_stands (alive free) a (known free)).good;
-    }
+some_tree a ready known =
+    let stands = tree_stands ready a known in
+    record { is = stands.is; good = stands.good }
 
 -- ---- steps
 
--- one diagram entered, where the definition's work enters the same
-pub gives_makes : {n : ℕ} {cells w cells' w' : List ℕ} {b b' : Builder} {x y : Tree} {r : ℕ}
-    → (b.full ≡ false → x ≡ y) → Good n y → Gives cells w b x cells' w' b' r
-    → MakesTree n cells w b (record { value = y; steps = y ∷ [] }) cells' w' b' r
-gives_makes {cells} {b} {x} {y} same good gives =
-    record {
-      after = after_same (λ free. ap (λ t. enter_all (t ∷ []) (nodes cells b)) (same free)) gives.after;
-      means =
-          record {
-            is = λ free. rw (same (after_free gives.after free)) at (gives.means free).is;
-            good = λ free. good;
-          };
-    }
+-- a diagram over n levels
+good_works : (n : ℕ) (cells : List ℕ) (b : Builder) (t : Tree) (cells' : List ℕ) (s' : Scratch) (r : Result (Made ℕ) NoRoom)
+    → Good n t → Works Means cells b (take t) cells' s' r → Works (TreeMeans n) cells b (take t) cells' s' r
+good_works n cells b t cells' s' (Ok made) good p =
+    record { after = p.after; means = record { is = p.means.is; good = good } }
+good_works n cells b t cells' s' (Err e) good p = p
 
--- no work
-pub nothing_makes : {n : ℕ} {cells w : List ℕ} {b : Builder} {r : ℕ} {x : Tree} → Alive cells w b
-    → TreeMeans n cells b r x → MakesTree n cells w b (done x) cells w b r
-nothing_makes {cells} {w} {b} alive means = record { after = after_nothing cells w b alive; means = means }
+-- what `step` promises
+abbrev pub Steps : List ℕ → Builder → ℕ → ℕ → ℕ → ℕ → List ℕ → Scratch → Result (Made ℕ) NoRoom → Type 0
+Steps cells b k p q r cells' s' result =
+    (x y z : Tree) → Means cells b p x → Means cells b q y → Means cells b r z →
+    Works Means cells b (step 128 (table_of k) x y z) cells' s' result
 
--- one piece of work after another
-pub makes_then : {n : ℕ} {cells w c₁ w₁ c₂ w₂ : List ℕ} {b b₁ b₂ : Builder} {m : Work Tree} {r₁ r₂ : ℕ}
-    (f : Tree → Work Tree) → MakesTree n cells w b m c₁ w₁ b₁ r₁ → MakesTree n c₁ w₁ b₁ (f m.value) c₂ w₂ b₂ r₂
-    → MakesTree n cells w b (◌>>=◌ m f) c₂ w₂ b₂ r₂
-makes_then f first second = record { after = after_then first.after second.after; means = second.means }
-
--- in a full table any work counts as done
-pub full_makes : {n : ℕ} {cells w cells' w' : List ℕ} {b b' : Builder} {xs : List Tree} {m : Work Tree} {r : ℕ}
-    → b.full ≡ true → After cells w b xs cells' w' b' → MakesTree n cells w b m cells' w' b' r
-full_makes {m} full after =
-    record {
-      after = after_same {ys = m.steps} (λ free. absurd (true≢false (sym full ∙ free))) after;
-      means =
-          record {
-            is = λ free. absurd (true≢false (sym (after.stays full) ∙ free));
-            good = λ free. absurd (true≢false (sym (after.stays full) ∙ free));
-          };
-    }
-
--- the truth tables of and, or
-pub and_function : table_of 192 ≡ is_and
-and_function = table_function 192 is_and and_table
-
-pub or_function : table_of 252 ≡ is_or
-or_function = table_function 252 is_or or_table
-
-module _ {cells w cells' w' : List ℕ} {b b' : Builder} {p q s r : ℕ} (k : ℕ)
-    (does : Steps cells w b (record { f = k; a = p; b = q; c = s }) cells' w' b' r) where
+module _ {cells : List ℕ} {b : Builder} {p q s : ℕ} (cells' : List ℕ) (s' : Scratch) (k : ℕ) (result : Result (Made ℕ) NoRoom)
+    (does : Steps cells b k p q s cells' s' result) where
   -- one step by the truth table k
   pub step_makes : {n : ℕ} {x y z : Tree} → n ≤ 128 → TreeMeans n cells b p x → TreeMeans n cells b q y
-      → TreeMeans n cells b s z → MakesTree n cells w b (step n (table_of k) x y z) cells' w' b' r
+      → TreeMeans n cells b s z → Works (TreeMeans n) cells b (step n (table_of k) x y z) cells' s' result
   unfolding step
   step_makes {n} {x} {y} {z} le is_x is_y is_z =
-      gives_makes
-      (λ free. step_levels n 128 le (table_of k) x y z (is_x.good free) (is_y.good free) (is_z.good free))
-      (step_good n (table_of k) x y z)
-      (does x y z (tree_means is_x le) (tree_means is_y le) (tree_means is_z le))
+      let same = step_levels n 128 le (table_of k) x y z is_x.good is_y.good is_z.good in
+      let done_at = does x y z (tree_means is_x le) (tree_means is_y le) (tree_means is_z le) in
+      good_works n cells b _ cells' s' result (step_good n (table_of k) x y z)
+      (subst (λ t. Works Means cells b (take t) cells' s' result) same done_at)
 
   -- by the function that the table is of
   pub step_named : {n : ℕ} {x y z : Tree} (f : Function) → Tabled k f → n ≤ 128 → TreeMeans n cells b p x
-      → TreeMeans n cells b q y → TreeMeans n cells b s z → MakesTree n cells w b (step n f x y z) cells' w' b' r
+      → TreeMeans n cells b q y → TreeMeans n cells b s z → Works (TreeMeans n) cells b (step n f x y z) cells' s' result
   step_named {n} {x} {y} {z} f tabled le is_x is_y is_z =
-      subst (λ g. MakesTree n cells w b (step n g x y z) cells' w' b' r) (table_function k f tabled)
+      subst (λ g. Works (TreeMeans n) cells b (step n g x y z) cells' s' result) (table_function k f tabled)
       (step_makes le is_x is_y is_z)
 
-  -- whatever its operands stand for
-  pub step_some : Alive cells w b → Known b p → Known b q → Known b s
-      → MakesTree 128 cells w b (step 128 (table_of k) (tree_of cells p) (tree_of cells q) (tree_of cells s)) cells' w' b' r
-  step_some alive known_p known_q known_s =
-      step_makes (omega arith) (some_tree p alive known_p) (some_tree q alive known_q) (some_tree s alive known_s)
+-- a step was done, whatever its operands stand for
+pub step_some : {cells : List ℕ} {w : Scratch} {b : Builder} {p q s : ℕ} (cells' : List ℕ) (s' : Scratch) (made : Made ℕ) (k : ℕ)
+    → Ready cells w b → Known b p → Known b q → Known b s → Steps cells b k p q s cells' s' (Ok made)
+    → Does (TreeMeans 128) cells b (step 128 (table_of k) (tree_of cells p) (tree_of cells q) (tree_of cells s)) cells' s' made
+step_some {p = p} {q} {s} cells' s' made k ready known_p known_q known_s does =
+    step_makes cells' s' k (Ok made) does (omega arith) (some_tree p ready known_p) (some_tree q ready known_q)
+    (some_tree s ready known_s)
 
 -- one quantifier step
-pub quantify_makes : {n : ℕ} {cells w cells' w' : List ℕ} {b b' : Builder} {a r : ℕ} {x : Tree} (every : Bool) (l : ℕ)
-    → Quantifies cells w b every l a cells' w' b' r → n ≤ 128 → TreeMeans n cells b a x
-    → MakesTree n cells w b (quantify n (chooser every) l x) cells' w' b' r
+pub quantify_makes : {n : ℕ} {cells : List ℕ} {b : Builder} {a : ℕ} {x : Tree} (cells' : List ℕ) (s' : Scratch) (every : Bool)
+    (l : ℕ) (result : Result (Made ℕ) NoRoom)
+    → ((y : Tree) → Means cells b a y → Works Means cells b (quantify 128 (chooser every) l y) cells' s' result)
+    → n ≤ 128 → TreeMeans n cells b a x → Works (TreeMeans n) cells b (quantify n (chooser every) l x) cells' s' result
 unfolding quantify
-quantify_makes {n} {x} every l does le is_x =
-    gives_makes (λ free. quantify_levels n 128 le (chooser every) l x (is_x.good free))
-    (quantify_good n (chooser every) l x) (does x (tree_means is_x le))
+quantify_makes {n} {cells} {b} {x = x} cells' s' every l result does le is_x =
+    let same = quantify_levels n 128 le (chooser every) l x is_x.good in
+    good_works n cells b _ cells' s' result (quantify_good n (chooser every) l x)
+    (subst (λ t. Works Means cells b (take t) cells' s' result) same (does x (tree_means is_x le)))

@@ -1,15 +1,37 @@
 -- `formula::compare::agreement` meets its contract. The invariant: the bits from i on are left.
+use Rattle.std.proofs.lemmas.Result.{err_from_is_err_and}
 use Rattle.formula.specs.Compare.{agree_bit}
-use Rattle.formula.proofs.Laws.Rowed.{rowed_start, rowed_ready, rowed_next}
+use Rattle.formula.proofs.Laws.Rowed.{rowed_start, rowed_ready, rowed_next, rowed_lacks}
 use Rattle.formula.proofs.Laws.Rowed.{agree_along, agree_splits}
 use Rattle.formula.proofs.compare.agreement.Goals as goal
 
 pub loop-i-init : goal.loop-i-init
-loop-i-init c = rowed_start agree_along c.requires.0 c.requires.1.0 c.requires.1.1.0 c.requires.1.1.1
+loop-i-init c = rowed_start agree_along c.args.x c.args.y c.requires.ready
 
-pub agree_bit-made-requires : goal.agree_bit-made-requires
-agree_bit-made-requires c = rowed_ready c.loop-i.invariant c.loop-i-test.true
+pub agree_bit-requires-clause-ready : goal.agree_bit-requires-clause-ready
+agree_bit-requires-clause-ready c =
+    (rowed_ready c.loop-i.invariant c.requires.same_width c.loop-i-test.true c.place.ensures c.place-in-loop-i.ensures
+    c.requires.ready c.requires.known.0 c.requires.known.1).ready
+
+pub agree_bit-requires-clause-bits : goal.agree_bit-requires-clause-bits
+agree_bit-requires-clause-bits c =
+    (rowed_ready c.loop-i.invariant c.requires.same_width c.loop-i-test.true c.place.ensures c.place-in-loop-i.ensures
+    c.requires.ready c.requires.known.0 c.requires.known.1).bits
+
+pub agree_bit-requires-clause-known : goal.agree_bit-requires-clause-known
+agree_bit-requires-clause-known c =
+    (rowed_ready c.loop-i.invariant c.requires.same_width c.loop-i-test.true c.place.ensures c.place-in-loop-i.ensures
+    c.requires.ready c.requires.known.0 c.requires.known.1).known
+
+pub returns-in_err-so_far : goal.returns-in_err-so_far
+returns-in_err-so_far c =
+    rw (err_from_is_err_and c.from_residual.result c.from_residual.ensures.1).1
+    (rowed_lacks c.loop-i.invariant c.requires.same_width c.loop-i-test.true c.place.ensures c.place-in-loop-i.ensures
+    agree_bit c.agree_bit.new.t c.agree_bit.new.s c.in_err-so_far.field-0.0 (agree_splits c.args.x.width c.loop-i.i)
+    c.in_err-so_far.ensures)
 
 pub loop-i-preserved : goal.loop-i-preserved
-loop-i-preserved c = rowed_next c.loop-i.invariant agree_bit c.loop-i-test.true (agree_splits _ _) c.agree_bit-made.ensures
-    c.agree_bit-made.auto.w
+loop-i-preserved c =
+    rowed_next c.loop-i.invariant c.requires.same_width c.loop-i-test.true c.place.ensures c.place-in-loop-i.ensures
+    agree_bit c.agree_bit.new.t c.agree_bit.new.s c.in_ok-so_far.so_far (agree_splits c.args.x.width c.loop-i.i)
+    c.in_ok-so_far.ensures

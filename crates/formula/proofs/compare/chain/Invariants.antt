@@ -1,11 +1,6 @@
 -- `formula::compare::chain` meets its contract. The invariant: the bits from i on are left.
-use Prim.Native.Nat.{◌-◌}
-use Rattle.formula.proofs.Laws.Rowed.{Rowed}
-use Rattle.formula.proofs.Laws.Rowed.{order_along}
+use Rattle.formula.proofs.Laws.Rowed.{Rowed, order_along}
 use Rattle.formula.proofs.compare.chain.Given as goal
 
 abbrev pub invariant-loop-i : goal.invariant-loop-i
-invariant-loop-i l = Rowed (order_along l.signed l.z) l.initial.t l.initial.w l.initial.at l.x l.y l.t l.w l.at l.r l.i
-
-abbrev pub decreases-loop-i : goal.decreases-loop-i
-decreases-loop-i l = l.width - l.i
+invariant-loop-i l = Rowed (order_along l.signed l.z) l.initial.t l.fn.b l.x l.y l.t l.s l.so_far l.i
