@@ -1,8 +1,6 @@
 -- Laws of the code's own vocabulary, by subject, each file resting on those above it.
--- one entry: a variable's levels, what is known of an entry by its kind number, one law a kind
-pub mod Levels
+-- one entry: what its kind says of it, and what an operation makes of it
 pub mod Entry
-pub mod Moved
 pub mod Kinds
--- the entries' values in a buffer
-pub mod Rows
+-- a variable's levels and nodes
+pub mod Levels

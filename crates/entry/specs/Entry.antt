@@ -1,55 +1,64 @@
 -- One entry of a sheet that has passed the check.
 --
---   Given      what may be relied on of the entry and of its operands' numbers
---   Promise    the entry is worked, whatever values its operands' numbers stand for
---   Levelled   the levels of a variable entry
-use Rattle.std.specs.Prelude.{ℕ, ◌<◌, ◌≡◌, Bool, true, false, List, length, get_or}
-use Rattle.meaning.specs.Number.{up_to}
-use Rattle.meaning.specs.Diagram.{Tree, literal}
-use Rattle.meaning.specs.Sheet.{count, record_at, entries, entry_at}
+--   OperandsHeld, OperandsMeant   what its operands' numbers are, and the values that they stand for
+--   IsWorked                      the entry was worked from the values before it
+--   AreLevelsOf                   the levels of a variable entry
+--   variable_at, quantified_at    the work of a variable, and of a quantifier over it
+--   IsRowOf                       a formula's value, as a row
+use Rattle.std.specs.Prelude.{ℕ, ◌<◌, ◌≡◌, Bool, List, length, get_or, Result, Ok, Err}
+use Rattle.meaning.specs.Sheet.{entries, entry_at}
 use Rattle.meaning.specs.Level.{level, levels, variable_bits}
-use Rattle.meaning.specs.Check.{check}
-use Rattle.meaning.specs.Run.{Value}
+use Rattle.meaning.specs.Step.{Work}
+use Rattle.meaning.specs.Row as Meaning
+use Rattle.meaning.specs.Formula as Formula
+use Rattle.meaning.specs.Run.{Value, variable, levels_of}
+use Rattle.diagram.specs.State.{chooser}
 use Rattle.diagram.specs.declared.builder.Builder.{Builder}
+use Rattle.diagram.specs.declared.builder.Made.{Made}
+use Rattle.diagram.specs.declared.builder.NoRoom.{NoRoom}
+use Rattle.diagram.specs.declared.scratch.Scratch.{Scratch}
 use Rattle.term.specs.declared.row.Row.{Row}
-use Rattle.formula.specs.Levels.{level_at}
 use Rattle.formula.specs.declared.pair.Pair.{Pair}
-use Rattle.formula.specs.declared.quantify.Levels.{Levels}
-use Rattle.entry.specs.Value.{OperandHeld, OperandMeant, Enters}
+use Rattle.entry.specs.Value.{pair_in, OperandHeld, OperandMeant, Enters}
 use Rattle.entry.specs.declared.value.Operands.{Operands}
 
--- the kind number of entry i
-abbrev pub number_at : List ℕ → ℕ → ℕ
-number_at s i = get_or s (record_at i) 0
-
-pub record Given (s : List ℕ) (b : Builder) (i : ℕ) (v : Operands) : Type 0 where
-  pub passed : check s ≡ 0
-  pub inside : i < count s
+-- the numbers of entry i's operands, where it has them
+pub record OperandsHeld (s : List ℕ) (i : ℕ) (b : Builder) (v : Operands) : Type 0 where
   pub x : OperandHeld (entries s) (entry_at s i) b 0 v.x
   pub y : OperandHeld (entries s) (entry_at s i) b 1 v.y
   pub z : OperandHeld (entries s) (entry_at s i) b 2 v.z
 
-abbrev pub Promise : List ℕ → ℕ → ℕ → Operands → List ℕ → List ℕ → Builder → List ℕ → List ℕ → Builder → Row → Type 0
-Promise s limit i v cells w b cells' w' b' row =
-    (before : List Value) → length before ≡ i →
-    OperandMeant (entries s) (entry_at s i) (levels (entries s)) cells b before 0 v.x →
-    OperandMeant (entries s) (entry_at s i) (levels (entries s)) cells b before 1 v.y →
-    OperandMeant (entries s) (entry_at s i) (levels (entries s)) cells b before 2 v.z →
-    Enters (entries s) (entry_at s i) (levels (entries s)) limit before cells w b cells' w' b' row
+-- they stand for values among those before it
+pub record OperandsMeant (s : List ℕ) (i : ℕ) (cells : List ℕ) (b : Builder) (before : List Value) (v : Operands)
+    : Type 0 where
+  pub x : OperandMeant (entries s) (entry_at s i) (levels (entries s)) cells b before 0 v.x
+  pub y : OperandMeant (entries s) (entry_at s i) (levels (entries s)) cells b before 1 v.y
+  pub z : OperandMeant (entries s) (entry_at s i) (levels (entries s)) cells b before 2 v.z
 
--- the kind numbers of exists and forall
-abbrev pub quantifier_of : Bool → ℕ
-quantifier_of false = 48
-quantifier_of true = 49
+-- entry i of the sheet was worked from the values before it, or the table lacks room
+abbrev pub IsWorked : List ℕ → ℕ → ℕ → List Value → List ℕ → Builder → List ℕ → Scratch → Result (Made Row) NoRoom → Type 0
+IsWorked s i limit before cells b cells' s' r =
+    Enters (entries s) (entry_at s i) (levels (entries s)) limit before cells b cells' s' r
 
--- a formula's value lies in the first two places
-abbrev pub pair_in : Row → Pair
-pair_in row = record { must = get_or row.bits 0 0; may = get_or row.bits 1 0 }
+-- these are the levels of variable entry o's bits, bit 0's first
+pub record AreLevelsOf (s : List ℕ) (o : ℕ) (of : List ℕ) : Type 0 where
+  pub count_is : length of ≡ variable_bits (entry_at s o)
+  pub each : (i : ℕ) → i < length of → get_or of i 0 ≡ level (entries s) o i
 
-pub record Levelled (s : List ℕ) (o : ℕ) (r : Levels) : Type 0 where
-  pub count_is : r.count ≡ variable_bits (entry_at s o)
-  pub each : (i : ℕ) → i < r.count → level_at r i ≡ level (entries s) o i
+-- the work of variable entry i: one node a bit
+abbrev pub variable_at : List ℕ → ℕ → Work Meaning.Row
+variable_at s i = variable (entries s) i (variable_bits (entry_at s i))
 
--- the diagrams of the bits of these levels
-abbrev pub literals : Levels → List Tree
-literals r = up_to (λ i. literal (level_at r i)) r.count
+-- the work of for all, or of exists, of variable entry i
+abbrev pub quantified_at : List ℕ → ℕ → ℕ → Bool → Formula.Pair → Work Formula.Pair
+quantified_at s i n every = Formula.quantified n (chooser every) (levels_of (entries s) i)
+
+-- what was made is a row that holds the pair that was made
+pub record HoldsPair (p : Made Pair) (r : Made Row) : Type 0 where
+  pub at : r.at ≡ p.at
+  pub value : pair_in r.value ≡ p.value
+
+abbrev pub IsRowOf : Result (Made Pair) NoRoom → Result (Made Row) NoRoom → Type 0
+IsRowOf (Ok p) (Ok r) = HoldsPair p r
+IsRowOf (Err e) r = r ≡ Err e
+IsRowOf (Ok p) (Err e) = ⊥

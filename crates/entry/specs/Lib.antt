@@ -1,4 +1,4 @@
--- What the promises of this crate say, beyond document 01's own definitions.
+-- What the promises of this crate say, beyond the definitions of crate meaning.
 pub mod Value
 pub mod Entry
 pub mod Rows

@@ -1,28 +1,31 @@
-// One entry: its operands' values in, its own value out.
-ghost use Rattle.std.specs.Prelude.{◌≡◌, List, ℕ, ◌*◌, ◌<◌, ◌≤◌, length};
-ghost use Rattle.meaning.specs.Sheet.{count, entries, entry_at, width_at};
+//! One entry: its operands' values in, its own value out.
+ghost use Rattle.std.specs.Prelude.{◌≡◌, ◌*◌, ◌≤◌, List, ℕ, Ok, length, take};
+ghost use Rattle.meaning.specs.Sheet.{entries};
 ghost use Rattle.meaning.specs.Level.{levels};
-ghost use Rattle.meaning.specs.Check.{check};
-ghost use Rattle.meaning.specs.Run as Run;
+ghost use Rattle.meaning.specs.Formula as Formula;
 ghost use Rattle.meaning.specs.Run.{Value};
-ghost use Rattle.diagram.specs.State.{Alive};
-ghost use Rattle.term.specs.Row.{Makes};
-ghost use Rattle.formula.specs.Levels.{LevelsFit, level_at};
-ghost use Rattle.entry.specs.Value.{OperandHeld, OperandMeant, Enters};
-ghost use Rattle.entry.specs.Entry.{number_at, Given, Promise, pair_in, Levelled, literals, quantifier_of};
+ghost use Rattle.diagram.specs.State.{Ready, Works};
+ghost use Rattle.term.specs.Row.{RowMeans};
+ghost use Rattle.formula.specs.Pair.{PairKnown, PairMeans};
+ghost use Rattle.entry.specs.Entry.{OperandsHeld, OperandsMeant, IsWorked, IsRowOf, AreLevelsOf, variable_at, quantified_at};
+ghost use Rattle.entry.specs.Value.{pair_in};
 
-use diagram::builder::Builder;
+use crate::rows;
+use diagram::builder::{Builder, Made, NoRoom};
+use diagram::count::Marks;
 use diagram::function;
-use diagram::table::Cell;
-use formula::pair::{Judged, Pair};
-use formula::quantify::Levels;
+use diagram::number::Diagram;
+use diagram::scratch::Scratch;
+use diagram::table::{Cell, Node};
+use formula::pair::Pair;
 use formula::{compare, pair, quantify};
-use sheet::{level, read};
+use sheet::checked::CheckedEntry;
+use sheet::kind::Kind;
 use term::bitwise::Operation;
-use term::row::{Row, Worked};
-use term::{add, bitwise, row};
+use term::row::Row;
+use term::{add, bitwise, multiply};
 
-// The values of up to three operands.
+/// The values of up to three operands.
 #[derive(Clone, Copy)]
 pub struct Operands {
     pub x: Row,
@@ -30,242 +33,160 @@ pub struct Operands {
     pub z: Row,
 }
 
-// A formula's value lies in the first two places.
-fn pair_of(value: Row) -> Pair
-    ensures { result ≡ pair_in value }
+// A formula's value lies in the first two places. Functions and no `From`: `Row` and `Pair` are other crates' types, and what the
+// places hold is this crate's own convention.
+fn pair_of(value: &Row) -> Pair
+    ensures { result ≡ pair_in value.now }
 {
-    Pair {
-        must: value.bits[0],
-        may: value.bits[1],
-    }
+    rows::pair_at(&value.bits, 0)
 }
 
-fn value_of(p: Pair) -> Row
+fn row_of(p: Pair) -> Row
     ensures { pair_in result ≡ p }
 {
-    let mut bits = [0u32; 32];
-    bits[0] = p.must;
-    bits[1] = p.may;
+    let mut bits = [0; 32];
+    bits[0] = p.must.number();
+    bits[1] = p.may.number();
     Row { bits, width: 0 }
 }
 
-fn judged(j: Judged) -> Worked
-    ensures { (result.at ≡ j.at) × (pair_in result.row ≡ j.pair) }
+// A formula's value as 32 numbers.
+fn judged(made: Result<Made<Pair>, NoRoom>) -> Result<Made<Row>, NoRoom>
+    ensures { IsRowOf made result }
 {
-    let at = j.at;
-    let pair = j.pair;
-    Worked {
+    let Made { at, value } = made?;
+    Ok(Made {
         at,
-        row: value_of(pair),
-    }
+        value: row_of(value),
+    })
 }
 
 // No step: the builder stays.
-fn unchanged(b: Builder, row: Row) -> Worked
-    ensures { result ≡ record { at = b; row = row } }
+fn unchanged(b: Builder, value: Row) -> Result<Made<Row>, NoRoom>
+    ensures { result ≡ Ok (record { at = b; value = value }) }
 {
-    Worked { at: b, row }
-}
-
-// The levels of variable entry o, bit 0's first.
-#[tactic(auto, using(crate::proofs::Laws::Levels::passed_laid))]
-fn levels_of(s: &[u8], o: usize) -> Levels
-    requires { (check s.now ≡ 0) × (o < count s.now) }
-    ensures { Levelled s.now o result }
-{
-    let count = level::bits_of(s, o) as usize;
-    let mut of = [0u32; 32];
-    let mut i = 0;
-    while i < count {
-        of[i] = level::level(s, o, i as u32);
-        i += 1;
-    }
-    Levels { of, count }
+    Ok(Made { at: b, value })
 }
 
 // One node a bit, bit 0 first.
-fn nodes(b: Builder, t: &mut [Cell], w: &mut [u32], levels: Levels) -> Worked
-    requires { Alive t.old w.old b × LevelsFit levels }
-    ensures { (n : ℕ) → ((i : ℕ) → i < levels.count → level_at levels i < n) → Makes n t.old w.old b (Run.variable_from (literals levels)) t.new w.new result.at result.row }
-{
-    let width = levels.count;
-    let mut at = b;
-    let mut bits = [0u32; 32];
-    let mut k = 0;
-    while k < width {
-        let made = at.node(t, w, levels.of[k], 0, 1);
-        at = made.at;
-        bits[k] = made.number;
-        k += 1;
-    }
-    Worked {
-        at,
-        row: Row { bits, width },
-    }
-}
-
-// Kind 1.
-fn variable(b: Builder, t: &mut [Cell], w: &mut [u32], s: &[u8], i: usize) -> Worked
-    requires { Alive t.old w.old b × ((check s.now ≡ 0) × ((i < count s.now) × (number_at s.now i ≡ 1))) }
-    ensures { Makes (levels (entries s.now)) t.old w.old b (Run.variable (entries s.now) i (width_at s.now i)) t.new w.new result.at result.row }
-{
-    let levels = levels_of(s, i);
-    nodes(b, t, w, levels)
-}
-
-// Terms without a step: kinds 10 to 15.
-#[tactic(auto, using(crate::proofs::Laws::Levels::passed_laid))]
-fn moved(b: Builder, s: &[u8], i: usize, kind: u8, v: Operands) -> Worked
-    requires { Given s.now b i v × ((kind ≡ number_at s.now i) × ((10 ≤ kind) × (kind < 16))) }
-    ensures { (limit : ℕ) (cells w : List ℕ) → Alive cells w b → Promise s.now limit i v cells w b cells w result.at result.row }
-{
-    let width = read::width(s, i) as usize;
-    let body = read::body(s, i);
-    let x = v.x;
-    let y = v.y;
-    match kind {
-        10 => unchanged(b, row::shift_left(read::amount(body) as usize % width, x)),
-        11 => unchanged(b, row::shift_right(read::amount(body) as usize % width, x)),
-        12 => unchanged(b, row::concat(x, y)),
-        13 => unchanged(
-            b,
-            row::extract(read::upper(body) as usize, read::lower(body) as usize, x),
-        ),
-        14 => unchanged(b, row::zero_extend(width, x)),
-        _ => unchanged(b, row::sign_extend(width, x)),
-    }
-}
-
-// A constant: kind 2.
-#[tactic(auto, using(crate::proofs::Laws::Levels::passed_laid))]
-fn constant(b: Builder, s: &[u8], i: usize, v: Operands) -> Worked
-    requires { Given s.now b i v × (number_at s.now i ≡ 2) }
-    ensures { (limit : ℕ) (cells w : List ℕ) → Alive cells w b → Promise s.now limit i v cells w b cells w result.at result.row }
-{
-    let width = read::width(s, i) as usize;
-    let value = read::constant(read::body(s, i));
-    unchanged(b, row::constant(width, value))
-}
-
-// Terms with steps: kinds 3 to 9.
-fn term(
+fn variable(
     b: Builder,
     t: &mut [Cell],
-    w: &mut [u32],
-    marks: &mut [u32],
-    limit: usize,
-    s: &[u8],
-    i: usize,
-    kind: u8,
-    v: Operands,
-) -> Worked
-    requires { Alive t.old w.old b × ((limit < 4294967296) × ((1048576 ≤ 32 * length marks.old) × (Given s.now b i v × ((kind ≡ number_at s.now i) × ((3 ≤ kind) × (kind < 10)))))) }
-    ensures { Promise s.now limit i v t.old w.old b t.new w.new result.at result.row }
+    s: &mut Scratch,
+    entry: CheckedEntry,
+) -> Result<Made<Row>, NoRoom>
+    requires { Ready t.old s.old b }
+    ensures { Works (RowMeans (levels (entries entry.entry.sheet.bytes.now))) t.old b
+        (variable_at entry.entry.sheet.bytes.now entry.entry.index) t.new s.new result }
 {
-    let x = v.x;
-    let y = v.y;
-    match kind {
-        3 => bitwise::work(b, t, w, Operation::Not, x, x),
-        4 => add::negate(b, t, w, marks, limit, x),
-        5 => bitwise::work(b, t, w, Operation::And, x, y),
-        6 => bitwise::work(b, t, w, Operation::Or, x, y),
-        7 => bitwise::work(b, t, w, Operation::Xor, x, y),
-        8 => add::add(b, t, w, marks, limit, x, y),
-        _ => add::multiply(b, t, w, marks, limit, x, y),
+    let mut at = b;
+    let mut bits = [0; 32];
+    let width = entry.bits();
+    for bit in 0..width {
+        let node = Node {
+            level: entry.level(bit),
+            low: Diagram::FALSE,
+            high: Diagram::TRUE,
+        };
+        let made = at.node(t, s, node)?;
+        at = made.at;
+        bits[bit as usize] = made.value.number();
     }
+    Ok(Made {
+        at,
+        value: Row {
+            bits,
+            width: width as usize,
+        },
+    })
 }
 
-// If-then-else: kind 16.
-fn choose(b: Builder, t: &mut [Cell], w: &mut [u32], s: &[u8], i: usize, v: Operands) -> Worked
-    requires { Alive t.old w.old b × (Given s.now b i v × (number_at s.now i ≡ 16)) }
-    ensures { (limit : ℕ) → Promise s.now limit i v t.old w.old b t.new w.new result.at result.row }
+// The levels of a variable's bits, bit 0's first, and how many they are: memory is fixed, and the caller goes on with a slice.
+fn levels_of(variable: CheckedEntry, levels: &mut [u32; 32]) -> usize
+    ensures few { result ≤ 32 }
+    ensures levels { AreLevelsOf variable.entry.sheet.bytes.now variable.entry.index (take result levels.new) }
 {
-    let x = v.x;
-    let y = v.y;
-    let z = v.z;
-    let c = pair_of(x);
-    bitwise::work(b, t, w, Operation::Choose(c.must, c.may), y, z)
+    let count = variable.bits();
+    for bit in 0..count {
+        levels[bit as usize] = variable.level(bit);
+    }
+    count as usize
 }
 
-// Exists, forall: kinds 48 and 49.
-#[tactic(auto, using(crate::proofs::Laws::Levels::passed_laid, crate::proofs::Laws::Entry::bound, crate::proofs::Laws::Kinds::variable_formula_lem))]
+// Exists, or forall where `every`, of this variable.
 fn quantified(
     b: Builder,
     t: &mut [Cell],
-    w: &mut [u32],
-    s: &[u8],
-    i: usize,
+    s: &mut Scratch,
     every: bool,
-    v: Operands,
-) -> Worked
-    requires { Alive t.old w.old b × (Given s.now b i v × (number_at s.now i ≡ quantifier_of every)) }
-    ensures { (limit : ℕ) → Promise s.now limit i v t.old w.old b t.new w.new result.at result.row }
+    variable: CheckedEntry,
+    p: Pair,
+) -> Result<Made<Pair>, NoRoom>
+    requires ready { Ready t.old s.old b }
+    requires known { PairKnown b p }
+    ensures { (n : ℕ) (x : Formula.Pair) → n ≤ 128 → PairMeans n t.old b p x →
+        Works (PairMeans n) t.old b (quantified_at variable.entry.sheet.bytes.now variable.entry.index n every x) t.new s.new result }
 {
-    let y = v.y;
-    let o = read::operand(read::body(s, i), 0);
-    let levels = levels_of(s, o);
-    judged(quantify::quantified(b, t, w, every, levels, pair_of(y)))
+    let mut levels = [0; 32];
+    let count = levels_of(variable, &mut levels);
+    quantify::quantified(b, t, s, every, &levels[..count], p)
 }
 
-// Formulas: kinds 32 to 36, 40 to 42, 48 and 49.
-fn formula(
+/// Entry i of a sheet that has passed the check. `NoRoom` comes exactly where its steps need more nodes than there are slots.
+/// The marks are for 1,048,576 slots or more, those of the largest table.
+pub fn work<const N: usize>(
     b: Builder,
     t: &mut [Cell],
-    w: &mut [u32],
-    s: &[u8],
-    i: usize,
-    kind: u8,
+    s: &mut Scratch,
+    marks: &mut Marks<N>,
+    limit: u32,
+    entry: CheckedEntry,
     v: Operands,
-) -> Worked
-    requires { Alive t.old w.old b × (Given s.now b i v × ((kind ≡ number_at s.now i) × (16 < kind))) }
-    ensures { (limit : ℕ) → Promise s.now limit i v t.old w.old b t.new w.new result.at result.row }
+) -> Result<Made<Row>, NoRoom>
+    requires ready { Ready t.old s.old b }
+    requires operands { OperandsHeld entry.sheet.bytes.now entry.index b v }
+    requires marks { 1048576 ≤ 32 * N }
+    ensures { (before : List Value) → length before ≡ entry.entry.index →
+        OperandsMeant entry.entry.sheet.bytes.now entry.entry.index t.old b before v →
+        IsWorked entry.entry.sheet.bytes.now entry.entry.index limit before t.old b t.new s.new result }
 {
-    let x = v.x;
-    let y = v.y;
-    match kind {
-        32 => unchanged(b, value_of(Pair { must: 1, may: 1 })),
-        33 => unchanged(b, value_of(Pair { must: 0, may: 0 })),
-        34 => judged(compare::equal(b, t, w, x, y)),
-        35 => judged(compare::at_most(b, t, w, false, x, y)),
-        36 => judged(compare::at_most(b, t, w, true, x, y)),
-        40 => judged(pair::negation(b, t, w, pair_of(x))),
-        41 => judged(pair::both(b, t, w, function::AND, pair_of(x), pair_of(y))),
-        42 => judged(pair::both(b, t, w, function::OR, pair_of(x), pair_of(y))),
-        48 => quantified(b, t, w, s, i, false, v),
-        _ => quantified(b, t, w, s, i, true, v),
+    let width = entry.width as usize;
+    let Operands { x, y, z } = v;
+    match entry.kind {
+        Kind::Variable => variable(b, t, s, entry),
+        Kind::Constant => unchanged(b, Row::constant(width, entry.constant())),
+        Kind::BitNot => bitwise::work(b, t, s, Operation::Not, x, x),
+        Kind::Negate => multiply::negate(b, t, s, marks, limit, x),
+        Kind::BitAnd => bitwise::work(b, t, s, Operation::And, x, y),
+        Kind::BitOr => bitwise::work(b, t, s, Operation::Or, x, y),
+        Kind::BitXor => bitwise::work(b, t, s, Operation::Xor, x, y),
+        Kind::Add => add::add(b, t, s, marks, limit, x, y),
+        Kind::Multiply => multiply::multiply(b, t, s, marks, limit, x, y),
+        Kind::ShiftLeft => unchanged(b, x.shift_left(entry.amount() as usize % width)),
+        Kind::ShiftRight => unchanged(b, x.shift_right(entry.amount() as usize % width)),
+        Kind::Concat => unchanged(b, x.concat(y)),
+        Kind::Extract => unchanged(b, x.extract(entry.upper() as usize, entry.lower() as usize)),
+        Kind::ZeroExtend => unchanged(b, x.zero_extend(width)),
+        Kind::SignExtend => unchanged(b, x.sign_extend(width)),
+        Kind::Choose => {
+            let Pair { must, may } = pair_of(&x);
+            bitwise::work(b, t, s, Operation::Choose { must, may }, y, z)
+        }
+        Kind::True => judged(Ok(Made {
+            at: b,
+            value: Pair::TRUE,
+        })),
+        Kind::False => judged(Ok(Made {
+            at: b,
+            value: Pair::FALSE,
+        })),
+        Kind::Equal => judged(compare::equal(b, t, s, x, y)),
+        Kind::AtMost => judged(compare::at_most(b, t, s, false, x, y)),
+        Kind::SignedAtMost => judged(compare::at_most(b, t, s, true, x, y)),
+        Kind::Not => judged(pair::negation(b, t, s, pair_of(&x))),
+        Kind::And => judged(pair::both(b, t, s, function::AND, pair_of(&x), pair_of(&y))),
+        Kind::Or => judged(pair::both(b, t, s, function::OR, pair_of(&x), pair_of(&y))),
+        Kind::Exists => judged(quantified(b, t, s, false, entry.operand(0), pair_of(&y))),
+        Kind::ForAll => judged(quantified(b, t, s, true, entry.operand(0), pair_of(&y))),
     }
-}
-
-// Entry i of a sheet that has passed the check.
-pub fn work(
-    b: Builder,
-    t: &mut [Cell],
-    w: &mut [u32],
-    marks: &mut [u32],
-    limit: usize,
-    s: &[u8],
-    i: usize,
-    v: Operands,
-) -> Worked
-    requires alive { Alive t.old w.old b × ((check s.now ≡ 0) × ((i < count s.now) × ((limit < 4294967296) × (1048576 ≤ 32 * length marks.old)))) }
-    requires operand_held { OperandHeld (entries s.now) (entry_at s.now i) b 0 v.x × (OperandHeld (entries s.now) (entry_at s.now i) b 1 v.y × OperandHeld (entries s.now) (entry_at s.now i) b 2 v.z) }
-    ensures { (before : List Value) → length before ≡ i → OperandMeant (entries s.now) (entry_at s.now i) (levels (entries s.now)) t.old b before 0 v.x → OperandMeant (entries s.now) (entry_at s.now i) (levels (entries s.now)) t.old b before 1 v.y → OperandMeant (entries s.now) (entry_at s.now i) (levels (entries s.now)) t.old b before 2 v.z → Enters (entries s.now) (entry_at s.now i) (levels (entries s.now)) limit before t.old w.old b t.new w.new result.at result.row }
-{
-    let kind = read::number(s, i);
-    if kind == 1 {
-        return variable(b, t, w, s, i);
-    }
-    if kind == 2 {
-        return constant(b, s, i, v);
-    }
-    if kind < 10 {
-        return term(b, t, w, marks, limit, s, i, kind, v);
-    }
-    if kind < 16 {
-        return moved(b, s, i, kind, v);
-    }
-    if kind == 16 {
-        return choose(b, t, w, s, i, v);
-    }
-    formula(b, t, w, s, i, kind, v)
 }

@@ -1,65 +1,62 @@
--- One entry: what its kind number says of it and of its operands, and its work.
+-- One entry: what its kind says of it and of its operands.
 --
---   given_number, some_kind, last_kind        from the kind number to the row of the kind table
---   one_term_lem, two_terms_lem, ..           what the operands' numbers are, by the operands' sorts and the widths
---   row_enters, truth_enters                  an operation's work is the entry's
-use Prim.Native.Nat.{ℕ, ◌≤◌, ◌<◌}
+--   Given                       an entry of this kind, with its operands' numbers
+--   wide, one_row, two_rows ..  the widths, and what the operands' numbers are
+--   term_means, terms_mean ..   the values that they stand for
+use Prim.Native.Nat.{ℕ, ◌+◌, ◌-◌, ◌%◌, ◌≤◌, ◌<◌}
+use native.Mathlib.Nat.{mod-lt, le_of_lt}
 use native.Mathlib.Omega.{arith}
 use mathlib.Core.Path.{◌≡◌, refl, sym, ap, subst, ◌∙◌}
-use mathlib.Core.Logic.{◌≢◌}
-use mathlib.Core.Bool.{Bool, true, false, cond, ◌&&◌, and-eq-true_iff, false≢true}
-use mathlib.Core.List.{List, [], ◌∷◌, append-nil}
+use mathlib.Core.Bool.{Bool, true, ◌&&◌, and-eq-true_iff, false≢true}
+use mathlib.Core.List.{List}
 use lib.Dec.{eqb, leb}
 use lib.ListN.{length}
-use borrow.Author.Tests.{eqb-true, leb-true}
-use Rattle.meaning.specs.Kind.{Sort, Operand, a_term, a_formula, Widths, Rule, rules, rule_of, row_of, alike}
+use borrow.Author.Tests.{eqb-true, leb-true, ltb-true}
+use Rattle.meaning.specs.Kind.{Sort, Operand, a_term, a_formula, Widths, Rule, rule_of, alike, sum, span, none_wider}
 use Rattle.meaning.specs.Kind.{one_term, two_terms, one_formula, two_formulas, formula_two_terms, variable_formula}
-use Rattle.meaning.specs.Sheet.{entry, entries, entry_at, count, rule_at, width_at, body, operand}
+use Rattle.meaning.specs.Sheet.{Entry, entry, entries, entry_at, count, operand, upper, lower}
 use Rattle.meaning.specs.Level.{levels}
-use Rattle.meaning.specs.Check.{check, suits, allowed, width_of, own_width, widths_fit, in_range}
-use Rattle.meaning.specs.Step.{Work}
-use Rattle.meaning.specs.Row as Row
-use Rattle.meaning.specs.Formula as Formula
+use Rattle.meaning.specs.Check.{suits, allowed, width_of, own_width, widths_fit, in_range}
 use Rattle.meaning.specs.Run as Run
-use Rattle.meaning.specs.Run.{Value, value_at, row_at, pair_at, as_row, as_truth, work_of}
-use Rattle.meaning.proofs.Laws.Checked.{Sound, Operands, sound_operands, RowOf, row_of_lem}
-use Rattle.meaning.proofs.Laws.Checked.{is_variable, is_constant, is_bit_not, is_negate, is_bit_and, is_bit_or, is_bit_xor, is_add}
-use Rattle.meaning.proofs.Laws.Checked.{is_multiply, is_shift_left, is_shift_right, is_concat, is_extract, is_zero_extend}
-use Rattle.meaning.proofs.Laws.Checked.{is_sign_extend, is_choose, is_true, is_false, is_equal, is_unsigned, is_signed}
-use Rattle.meaning.proofs.Laws.Checked.{is_formula_not, is_formula_and, is_formula_or, is_exists, is_forall, is_absent}
-use Rattle.diagram.specs.State.{After}
+use Rattle.meaning.specs.Run.{Value, value_at, row_at, pair_at}
+use Rattle.meaning.proofs.Laws.Checked as Checked
+use Rattle.meaning.proofs.Laws.Checked.{Sound, sound_operands}
+use Rattle.diagram.specs.State.{Ready}
 use Rattle.diagram.specs.declared.builder.Builder.{Builder}
-use Rattle.sheet.proofs.Laws.Check.{checked_laid}
-use Rattle.sheet.proofs.Laws.Passed.{passed_sound, laid_length}
-use Rattle.sheet.proofs.Laws.Sheet.{entry_at_lem}
-use Rattle.term.specs.Row.{RowMeans, RowKnown, Makes}
-use Rattle.term.specs.declared.row.Row as Declared
-use Rattle.formula.specs.Pair.{PairMeans, PairKnown, Judges}
-use Rattle.entry.specs.Value.{PairIn, Held, Meant, OperandHeld, OperandMeant, Enters}
-use Rattle.entry.specs.Entry.{number_at, Given, pair_in}
-use Rattle.entry.specs.declared.value.Operands as Declared-operands
-use Rattle.entry.proofs.Laws.Levels.{passed_levels}
+use Rattle.diagram.specs.declared.scratch.Scratch.{Scratch}
+use Rattle.sheet.specs.Kind.{number_of}
+use Rattle.sheet.specs.declared.checked.CheckedEntry.{CheckedEntry}
+use Rattle.sheet.specs.declared.kind.Kind.{Kind}
+use Rattle.sheet.proofs.Laws.Passed.{passed_levels, passed_sound}
+use Rattle.sheet.proofs.Laws.Sheet.{entry_at_lem, entry_rule}
+use Rattle.term.specs.Row.{RowMeans, RowKnown}
+use Rattle.term.specs.Add.{Addable}
+use Rattle.term.specs.declared.row.Row.{Row}
+use Rattle.formula.specs.Pair.{PairMeans, PairKnown}
+use Rattle.entry.specs.Value.{Held, Meant, OperandHeld, OperandMeant, pair_in}
+use Rattle.entry.specs.Entry.{OperandsHeld, OperandsMeant}
+use Rattle.entry.specs.declared.value.Operands.{Operands}
 
-pub both_true : (a b : Bool) → a && b ≡ true → (a ≡ true) × (b ≡ true)
+both_true : (a b : Bool) → a && b ≡ true → (a ≡ true) × (b ≡ true)
 both_true a b = (and-eq-true_iff a b).0
 
 -- ---- by sort
 
-held_term : (sort : Sort) (b : Builder) (w : ℕ) (row : Declared.Row) → suits a_term sort ≡ true → Held sort b w row
+held_term : (sort : Sort) (b : Builder) (w : ℕ) (row : Row) → suits a_term sort ≡ true → Held sort b w row
     → (row.width ≡ w) × RowKnown b row
 held_term Sort.variable b w row is h = h
 held_term Sort.term b w row is h = h
 held_term Sort.formula b w row is h = absurd (false≢true is)
 held_term Sort.neither b w row is h = absurd (false≢true is)
 
-held_formula : (sort : Sort) (b : Builder) (w : ℕ) (row : Declared.Row) → suits a_formula sort ≡ true → Held sort b w row
+held_formula : (sort : Sort) (b : Builder) (w : ℕ) (row : Row) → suits a_formula sort ≡ true → Held sort b w row
     → PairKnown b (pair_in row)
 held_formula Sort.variable b w row is h = absurd (false≢true is)
 held_formula Sort.term b w row is h = absurd (false≢true is)
-held_formula Sort.formula b w row is h = record { must = h.must; may = h.may }
+held_formula Sort.formula b w row is h = h
 held_formula Sort.neither b w row is h = absurd (false≢true is)
 
-module _ (n : ℕ) (cells : List ℕ) (b : Builder) (row : Declared.Row) (v : Value) where
+module _ (n : ℕ) (cells : List ℕ) (b : Builder) (row : Row) (v : Value) where
   meant_term : (sort : Sort) → suits a_term sort ≡ true → Meant sort n cells b row v → RowMeans n cells b row (Run.row_of v)
   meant_term Sort.variable is h = h
   meant_term Sort.term is h = h
@@ -70,79 +67,8 @@ module _ (n : ℕ) (cells : List ℕ) (b : Builder) (row : Declared.Row) (v : Va
       → PairMeans n cells b (pair_in row) (Run.pair_of v)
   meant_formula Sort.variable is h = absurd (false≢true is)
   meant_formula Sort.term is h = absurd (false≢true is)
-  meant_formula Sort.formula is h =
-      record {
-        must = record { is = h.must_is; good = h.must_good };
-        may = record { is = h.may_is; good = h.may_good };
-      }
+  meant_formula Sort.formula is h = h
   meant_formula Sort.neither is h = absurd (false≢true is)
-
-term_meant_by : (sort : Sort) (n : ℕ) (cells : List ℕ) (b : Builder) (row : Declared.Row) (r : Row.Row) → suits a_term sort ≡ true
-    → RowMeans n cells b row r → Meant sort n cells b row (Run.row r)
-term_meant_by Sort.variable n cells b row r is h = h
-term_meant_by Sort.term n cells b row r is h = h
-term_meant_by Sort.formula n cells b row r is h = absurd (false≢true is)
-term_meant_by Sort.neither n cells b row r is h = absurd (false≢true is)
-
--- a pair of numbers that lie in a row's first two places
-pair_in_lem : {n : ℕ} {cells : List ℕ} {b : Builder} (row : Declared.Row) {p : Formula.Pair}
-    → PairMeans n cells b (pair_in row) p → PairIn n cells b row p
-pair_in_lem row means =
-    record {
-      must_is = means.must.is;
-      must_good = means.must.good;
-      may_is = means.may.is;
-      may_good = means.may.good;
-    }
-
--- ---- the kind number
-
--- a row that is found has the number asked for
-found : (k : ℕ) (rs : List Rule) (w : ℕ) → allowed (row_of k rs).sort w ≡ true → (row_of k rs).number ≡ k
-found k [] w is = absurd (false≢true is)
-found k (r ∷ rs) w is = go (eqb r.number k) refl is (found k rs w)
-  where
-    go : (e : Bool) → eqb r.number k ≡ e → allowed (cond e r (row_of k rs)).sort w ≡ true
-        → (allowed (row_of k rs).sort w ≡ true → (row_of k rs).number ≡ k) → (cond e r (row_of k rs)).number ≡ k
-    go true e fits later = eqb-true r.number k e
-    go false e fits later = later fits
-
-found_rule : (k w : ℕ) → allowed (rule_of k).sort w ≡ true → (rule_of k).number ≡ k
-unfolding rule_of
-found_rule k w fits = found k rules w fits
-
--- of the kinds above 16, the one that is none of the others
-last_row : (k : ℕ) (r : Rule) → RowOf r → r.number ≡ k → 16 < k → k ≢ 32 → k ≢ 33 → k ≢ 34 → k ≢ 35 → k ≢ 36 → k ≢ 40
-    → k ≢ 41 → k ≢ 42 → k ≢ 48 → k ≡ 49
-last_row k _ is_variable is high a b c d e f g h i = absurd (omega arith)
-last_row k _ is_constant is high a b c d e f g h i = absurd (omega arith)
-last_row k _ is_bit_not is high a b c d e f g h i = absurd (omega arith)
-last_row k _ is_negate is high a b c d e f g h i = absurd (omega arith)
-last_row k _ is_bit_and is high a b c d e f g h i = absurd (omega arith)
-last_row k _ is_bit_or is high a b c d e f g h i = absurd (omega arith)
-last_row k _ is_bit_xor is high a b c d e f g h i = absurd (omega arith)
-last_row k _ is_add is high a b c d e f g h i = absurd (omega arith)
-last_row k _ is_multiply is high a b c d e f g h i = absurd (omega arith)
-last_row k _ is_shift_left is high a b c d e f g h i = absurd (omega arith)
-last_row k _ is_shift_right is high a b c d e f g h i = absurd (omega arith)
-last_row k _ is_concat is high a b c d e f g h i = absurd (omega arith)
-last_row k _ is_extract is high a b c d e f g h i = absurd (omega arith)
-last_row k _ is_zero_extend is high a b c d e f g h i = absurd (omega arith)
-last_row k _ is_sign_extend is high a b c d e f g h i = absurd (omega arith)
-last_row k _ is_choose is high a b c d e f g h i = absurd (omega arith)
-last_row k _ is_absent is high a b c d e f g h i = absurd (omega arith)
-last_row k _ is_true is high a b c d e f g h i = absurd (a (sym is))
-last_row k _ is_false is high a b c d e f g h i = absurd (b (sym is))
-last_row k _ is_equal is high a b c d e f g h i = absurd (c (sym is))
-last_row k _ is_unsigned is high a b c d e f g h i = absurd (d (sym is))
-last_row k _ is_signed is high a b c d e f g h i = absurd (e (sym is))
-last_row k _ is_formula_not is high a b c d e f g h i = absurd (f (sym is))
-last_row k _ is_formula_and is high a b c d e f g h i = absurd (g (sym is))
-last_row k _ is_formula_or is high a b c d e f g h i = absurd (h (sym is))
-last_row k _ is_exists is high a b c d e f g h i = absurd (i (sym is))
-last_row k _ is_forall is high a b c d e f g h i = sym is
-
--- ---- an entry by its kind number
 
 allowed_some : (w : ℕ) → leb 1 w && leb w 32 ≡ true → (1 ≤ w) × (w ≤ 32)
 allowed_some w h = let s = both_true (leb 1 w) (leb w 32) h in (leb-true 1 w s.0, leb-true w 32 s.1)
@@ -154,275 +80,256 @@ term_some Sort.term w is h = allowed_some w h
 term_some Sort.formula w is h = absurd (false≢true is)
 term_some Sort.neither w is h = absurd (false≢true is)
 
-pub given : {s : List ℕ} {b : Builder} {i : ℕ} {v : Declared-operands.Operands} → check s ≡ 0 → i < count s
-    → OperandHeld (entries s) (entry_at s i) b 0 v.x
-    × (OperandHeld (entries s) (entry_at s i) b 1 v.y × OperandHeld (entries s) (entry_at s i) b 2 v.z) → Given s b i v
-given passed inside held =
-    record { passed = passed; inside = inside; x = held.0; y = held.1.0; z = held.1.1 }
+-- ---- an entry by its kind
 
-module _ {s : List ℕ} {b : Builder} {i : ℕ} {v : Declared-operands.Operands} (g : Given s b i v) where
-  pub given_levels : levels (entries s) ≤ 128
-  given_levels = passed_levels s g.passed
+abbrev pub entries_of : CheckedEntry → List Entry
+entries_of e = entries e.sheet.bytes.now
 
-  pub given_sound : Sound (entries s) i (entry_at s i)
-  given_sound = passed_sound s g.passed i g.inside
+abbrev pub own : CheckedEntry → Entry
+own e = entry_at e.sheet.bytes.now e.index
 
-  -- the code's numbers are those of kinds
-  pub given_number : (k : ℕ) → k ≡ number_at s i → (rule_of k).number ≡ k
-  given_number k is = rw is (found_rule (number_at s i) (width_at s i) given_sound.width_allowed)
+-- the kind's row of the table
+abbrev pub row_for : Kind → Rule
+row_for kind = rule_of (number_of kind)
 
-  pub last_kind : (k : ℕ) → k ≡ number_at s i → 16 < k → k ≢ 32 → k ≢ 33 → k ≢ 34 → k ≢ 35 → k ≢ 36 → k ≢ 40
-      → k ≢ 41 → k ≢ 42 → k ≢ 48 → k ≡ 49
-  last_kind k is = last_row k (rule_of k) (row_of_lem k) (given_number k is)
+pub record Given (kind : Kind) (e : CheckedEntry) (b : Builder) (v : Operands) : Type 0 where
+  pub is : e.kind ≡ kind
+  pub held : OperandsHeld e.sheet.bytes.now e.index b v
 
-  pub some_kind : (k : ℕ) → k ≡ number_at s i → k ≢ 0
-  unfolding rule_of rules
-  some_kind k is none = false≢true (rw (sym is ∙ none) at given_sound.width_allowed)
+pub given : {kind : Kind} {b : Builder} {v : Operands} (e : CheckedEntry) → e.kind ≡ kind
+    → OperandsHeld e.sheet.bytes.now e.index b v → Given kind e b v
+given e is held = record { is = is; held = held }
 
-  module _ (k : ℕ) (is : number_at s i ≡ k) where
-    pub operands_at : {os : List Operand} → (rule_of k).operands ≡ os → Operands (entries s) i (entry_at s i) 0 os
-    operands_at eq =
-        subst (λ (os : List Operand). Operands (entries s) i (entry_at s i) 0 os) (ap (λ (m : ℕ). (rule_of m).operands) is ∙ eq)
-        (sound_operands (entries s) i (entry_at s i) given_sound)
+module _ {kind : Kind} {e : CheckedEntry} {b : Builder} {v : Operands} (g : Given kind e b v) where
+  pub few : levels (entries_of e) ≤ 128
+  few = passed_levels e.sheet.bytes.now e.sheet.passed
 
-    pub many_at : {os : List Operand} → (rule_of k).operands ≡ os → length (rule_at s i).operands ≡ length os
-    many_at eq = ap (λ (m : ℕ). length (rule_of m).operands) is ∙ ap length eq
+  sound : Sound (entries_of e) e.index (own e)
+  sound = passed_sound e.sheet.bytes.now e.sheet.passed e.index e.is_entry.inside
 
-    pub widths_at : {ws : Widths} → (rule_of k).widths ≡ ws → widths_fit ws (entries s) (entry_at s i) ≡ true
-    widths_at eq =
-        subst (λ (ws : Widths). widths_fit ws (entries s) (entry_at s i) ≡ true) (ap (λ (m : ℕ). (rule_of m).widths) is ∙ eq)
-        given_sound.widths_fit_lem
+  pub rule_is : (own e).rule ≡ row_for kind
+  rule_is = sym (entry_rule e.is_entry) ∙ ap (λ (k : Kind). rule_of (number_of k)) g.is
 
-    pub range_at : {ws : Widths} → (rule_of k).widths ≡ ws → in_range ws (entries s) (entry_at s i) ≡ true
-    range_at eq =
-        subst (λ (ws : Widths). in_range ws (entries s) (entry_at s i) ≡ true) (ap (λ (m : ℕ). (rule_of m).widths) is ∙ eq)
-        given_sound.in_range_lem
+  -- the entry's own width
+  pub wide : (row_for kind).sort ≡ Sort.term → (1 ≤ e.width) × (e.width ≤ 32)
+  wide sorted =
+      allowed_some e.width
+      (rw e.is_entry.width_is
+      (subst (λ (t : Sort). allowed t (own e).width ≡ true) (ap (λ (r : Rule). r.sort) rule_is ∙ sorted) sound.width_allowed))
 
-    pub wide_at : (rule_of k).sort ≡ Sort.term → (1 ≤ width_at s i) × (width_at s i ≤ 32)
-    wide_at eq =
-        allowed_some (width_at s i)
-        (subst (λ (t : Sort). allowed t (width_at s i) ≡ true) (ap (λ (m : ℕ). (rule_of m).sort) is ∙ eq)
-        given_sound.width_allowed)
+  fits_as : {ws : Widths} → (row_for kind).widths ≡ ws → widths_fit ws (entries_of e) (own e) ≡ true
+  fits_as eq =
+      subst (λ (ws : Widths). widths_fit ws (entries_of e) (own e) ≡ true) (ap (λ (r : Rule). r.widths) rule_is ∙ eq)
+      sound.widths_fit_lem
 
-    pub body_at : (l : ℕ) → (rule_of k).body ≡ l → length (body s i) ≡ l
-    body_at l eq =
-        laid_length (checked_laid s g.passed) i g.inside ∙ ap (λ (m : ℕ). (rule_of m).body) is ∙ eq
+  range_as : {ws : Widths} → (row_for kind).widths ≡ ws → in_range ws (entries_of e) (own e) ≡ true
+  range_as eq =
+      subst (λ (ws : Widths). in_range ws (entries_of e) (own e) ≡ true) (ap (λ (r : Rule). r.widths) rule_is ∙ eq)
+      sound.in_range_lem
+
+  module _ {os : List Operand} (eq : (row_for kind).operands ≡ os) where
+    operands_as : Checked.Operands (entries_of e) e.index (own e) 0 os
+    operands_as =
+        subst (λ (os : List Operand). Checked.Operands (entries_of e) e.index (own e) 0 os)
+        (ap (λ (r : Rule). r.operands) rule_is ∙ eq) (sound_operands (entries_of e) e.index (own e) sound)
+
+    pub many : length (own e).rule.operands ≡ length os
+    many = ap (λ (r : Rule). length r.operands) rule_is ∙ ap length eq
 
     -- every term operand has the entry's own width
-    own_at : {os : List Operand} → (rule_of k).operands ≡ os → (rule_of k).widths ≡ Widths.equal
-        → own_width (entries s) (entry_at s i) 0 os ≡ true
-    own_at eq equal =
-        subst (λ (os : List Operand). own_width (entries s) (entry_at s i) 0 os ≡ true)
-        (ap (λ (m : ℕ). (rule_of m).operands) is ∙ eq) (widths_at equal)
+    own_as : (row_for kind).widths ≡ Widths.equal → own_width (entries_of e) (own e) 0 os ≡ true
+    own_as equal =
+        subst (λ (os : List Operand). own_width (entries_of e) (own e) 0 os ≡ true)
+        (ap (λ (r : Rule). r.operands) rule_is ∙ eq) (fits_as equal)
 
-    -- ---- operands
+  -- ---- operands
 
-    term_held : (j : ℕ) (row : Declared.Row) → OperandHeld (entries s) (entry_at s i) b j row
-        → j < length (rule_at s i).operands → suits a_term (entry (entries s) (operand (entry_at s i) j)).rule.sort ≡ true
-        → (row.width ≡ width_of (entries s) (entry_at s i) j) × RowKnown b row
-    term_held j row held has suited =
-        held_term (entry (entries s) (operand (entry_at s i) j)).rule.sort b (width_of (entries s) (entry_at s i) j) row suited
-        (held has)
+  term_held : (j : ℕ) (row : Row) → OperandHeld (entries_of e) (own e) b j row → j < length (own e).rule.operands
+      → suits a_term (entry (entries_of e) (operand (own e) j)).rule.sort ≡ true
+      → (row.width ≡ width_of (entries_of e) (own e) j) × RowKnown b row
+  term_held j row held has suited =
+      held_term (entry (entries_of e) (operand (own e) j)).rule.sort b (width_of (entries_of e) (own e) j) row suited (held has)
 
-    pair_held : (j : ℕ) (row : Declared.Row) → OperandHeld (entries s) (entry_at s i) b j row
-        → j < length (rule_at s i).operands → suits a_formula (entry (entries s) (operand (entry_at s i) j)).rule.sort ≡ true
-        → PairKnown b (pair_in row)
-    pair_held j row held has suited =
-        held_formula (entry (entries s) (operand (entry_at s i) j)).rule.sort b (width_of (entries s) (entry_at s i) j) row suited
-        (held has)
+  pair_held : (j : ℕ) (row : Row) → OperandHeld (entries_of e) (own e) b j row → j < length (own e).rule.operands
+      → suits a_formula (entry (entries_of e) (operand (own e) j)).rule.sort ≡ true → PairKnown b (pair_in row)
+  pair_held j row held has suited =
+      held_formula (entry (entries_of e) (operand (own e) j)).rule.sort b (width_of (entries_of e) (own e) j) row suited (held has)
 
-    pub one_term_lem : (rule_of k).operands ≡ one_term → (v.x.width ≡ width_of (entries s) (entry_at s i) 0) × RowKnown b v.x
-    one_term_lem eq = term_held 0 v.x g.x (omega (arith, many_at eq)) (operands_at eq).suits
+  -- one term
+  module _ (one : (row_for kind).operands ≡ one_term) where
+    one_row : (v.x.width ≡ width_of (entries_of e) (own e) 0) × RowKnown b v.x
+    one_row = term_held 0 v.x g.held.x (omega (arith, many one)) (operands_as one).suits
+
+    pub one_known : RowKnown b v.x
+    one_known = one_row.1
 
     -- its width is 1 to 32
-    pub one_some : (rule_of k).operands ≡ one_term → (1 ≤ v.x.width) × (v.x.width ≤ 32)
-    one_some eq =
-        let o = operand (entry_at s i) 0 in
-        let below : o < count s = omega (arith, (operands_at eq).below, g.inside) in
-        let sound = passed_sound s g.passed o below in
-        let at : entry (entries s) o ≡ entry_at s o = entry_at_lem s o below in
-        let fits : allowed (entry (entries s) o).rule.sort (entry (entries s) o).width ≡ true = rw at sound.width_allowed in
-        let some = term_some (entry (entries s) o).rule.sort (entry (entries s) o).width (operands_at eq).suits fits in
-        rw (one_term_lem eq).0 some
+    pub one_some : (1 ≤ v.x.width) × (v.x.width ≤ 32)
+    one_some =
+        let o = operand (own e) 0 in
+        let below : o < count e.sheet.bytes.now = omega (arith, (operands_as one).below, e.is_entry.inside) in
+        let at : entry (entries_of e) o ≡ entry_at e.sheet.bytes.now o = entry_at_lem e.sheet.bytes.now o below in
+        let fits : allowed (entry (entries_of e) o).rule.sort (entry (entries_of e) o).width ≡ true =
+        rw at (passed_sound e.sheet.bytes.now e.sheet.passed o below).width_allowed in
+        rw one_row.0 (term_some (entry (entries_of e) o).rule.sort (entry (entries_of e) o).width (operands_as one).suits fits)
 
-    pub two_terms_lem : (rule_of k).operands ≡ two_terms
-        → ((v.x.width ≡ width_of (entries s) (entry_at s i) 0) × RowKnown b v.x)
-        × ((v.y.width ≡ width_of (entries s) (entry_at s i) 1) × RowKnown b v.y)
-    two_terms_lem eq = (
-      term_held 0 v.x g.x (omega (arith, many_at eq)) (operands_at eq).suits,
-      term_held 1 v.y g.y (omega (arith, many_at eq)) (operands_at eq).rest.suits,
+    -- of the entry's own width
+    pub one_own : (row_for kind).widths ≡ Widths.equal → v.x.width ≡ e.width
+    one_own equal =
+        let wide = both_true (eqb (width_of (entries_of e) (own e) 0) (own e).width) true (own_as one equal) in
+        one_row.0 ∙ eqb-true (width_of (entries_of e) (own e) 0) (own e).width wide.0 ∙ sym e.is_entry.width_is
+
+    -- a shift's amount is at most the width
+    pub shift_inside : (a : ℕ) → (row_for kind).sort ≡ Sort.term → (row_for kind).widths ≡ Widths.equal
+        → a % e.width ≤ v.x.width
+    shift_inside a sorted equal = rw (one_own equal) (le_of_lt (mod-lt a (wide sorted).0))
+
+    -- not wider than the entry
+    pub one_inside : (row_for kind).widths ≡ none_wider → v.x.width ≤ e.width
+    one_inside not_wider =
+        let le = leb-true (width_of (entries_of e) (own e) 0) (own e).width (fits_as not_wider) in
+        rw (one_row.0, e.is_entry.width_is) le
+
+    -- an extract's bits are in order, and inside the operand
+    pub span_order : (row_for kind).widths ≡ span → lower (own e) ≤ upper (own e)
+    span_order spans =
+        leb-true (lower (own e)) (upper (own e))
+        (both_true (leb (lower (own e)) (upper (own e))) (eqb (own e).width (upper (own e) - lower (own e) + 1))
+        (fits_as spans)).0
+
+    pub span_inside : (row_for kind).widths ≡ span → upper (own e) < v.x.width
+    span_inside spans = rw one_row.0 (ltb-true (upper (own e)) (width_of (entries_of e) (own e) 0) (range_as spans))
+
+  -- two terms
+  module _ (two : (row_for kind).operands ≡ two_terms) where
+    first : (v.x.width ≡ width_of (entries_of e) (own e) 0) × RowKnown b v.x
+    first = term_held 0 v.x g.held.x (omega (arith, many two)) (operands_as two).suits
+
+    second : (v.y.width ≡ width_of (entries_of e) (own e) 1) × RowKnown b v.y
+    second = term_held 1 v.y g.held.y (omega (arith, many two)) (operands_as two).rest.suits
+
+    pub two_known : RowKnown b v.x × RowKnown b v.y
+    two_known = (first.1, second.1)
+
+    -- of the entry's own width
+    pub two_own : (row_for kind).widths ≡ Widths.equal → v.x.width ≡ v.y.width
+    two_own equal =
+        let x = width_of (entries_of e) (own e) 0 in
+        let y = width_of (entries_of e) (own e) 1 in
+        let wide = both_true (eqb x (own e).width) (eqb y (own e).width && true) (own_as two equal) in
+        let last = both_true (eqb y (own e).width) true wide.1 in
+        first.0 ∙ eqb-true x (own e).width wide.0 ∙ sym (eqb-true y (own e).width last.0) ∙ sym second.0
+
+    -- of one width
+    pub two_alike : (row_for kind).widths ≡ alike → v.x.width ≡ v.y.width
+    two_alike alikes =
+        first.0 ∙ eqb-true (width_of (entries_of e) (own e) 0) (width_of (entries_of e) (own e) 1) (fits_as alikes) ∙ sym second.0
+
+    -- of widths that add up to the entry's
+    pub two_sum : (row_for kind).sort ≡ Sort.term → (row_for kind).widths ≡ sum → v.x.width + v.y.width ≤ 32
+    two_sum sorted sums =
+        let total = eqb-true (own e).width (width_of (entries_of e) (own e) 0 + width_of (entries_of e) (own e) 1) (fits_as sums) in
+        omega (arith, first.0, second.0, (wide sorted).1, total, e.is_entry.width_is)
+
+  -- a formula and two terms of the entry's own width
+  module _ (choosing : (row_for kind).operands ≡ formula_two_terms) where
+    second_row : (v.y.width ≡ width_of (entries_of e) (own e) 1) × RowKnown b v.y
+    second_row = term_held 1 v.y g.held.y (omega (arith, many choosing)) (operands_as choosing).rest.suits
+
+    third_row : (v.z.width ≡ width_of (entries_of e) (own e) 2) × RowKnown b v.z
+    third_row = term_held 2 v.z g.held.z (omega (arith, many choosing)) (operands_as choosing).rest.rest.suits
+
+    pub choice_condition : PairKnown b (pair_in v.x)
+    choice_condition = pair_held 0 v.x g.held.x (omega (arith, many choosing)) (operands_as choosing).suits
+
+    pub choice_known : RowKnown b v.y × RowKnown b v.z
+    choice_known = (second_row.1, third_row.1)
+
+    pub choice_own : (row_for kind).widths ≡ Widths.equal → v.y.width ≡ v.z.width
+    choice_own equal =
+        let y = width_of (entries_of e) (own e) 1 in
+        let z = width_of (entries_of e) (own e) 2 in
+        let wide = both_true (eqb y (own e).width) (eqb z (own e).width && true) (own_as choosing equal) in
+        let last = both_true (eqb z (own e).width) true wide.1 in
+        second_row.0 ∙ eqb-true y (own e).width wide.0 ∙ sym (eqb-true z (own e).width last.0) ∙ sym third_row.0
+
+  -- formulas; a variable and a formula
+  pub one_pair : (row_for kind).operands ≡ one_formula → PairKnown b (pair_in v.x)
+  one_pair one = pair_held 0 v.x g.held.x (omega (arith, many one)) (operands_as one).suits
+
+  pub two_pairs : (row_for kind).operands ≡ two_formulas → PairKnown b (pair_in v.x) × PairKnown b (pair_in v.y)
+  two_pairs two = (
+    pair_held 0 v.x g.held.x (omega (arith, many two)) (operands_as two).suits,
+    pair_held 1 v.y g.held.y (omega (arith, many two)) (operands_as two).rest.suits,
+  )
+
+  pub bound_pair : (row_for kind).operands ≡ variable_formula → PairKnown b (pair_in v.y)
+  bound_pair bound = pair_held 1 v.y g.held.y (omega (arith, many bound)) (operands_as bound).rest.suits
+
+  -- ---- their values
+
+  module _ {cells : List ℕ} {before : List Value} (meant : OperandsMeant e.sheet.bytes.now e.index cells b before v) where
+    term_meant : (j : ℕ) (row : Row) → OperandMeant (entries_of e) (own e) (levels (entries_of e)) cells b before j row
+        → j < length (own e).rule.operands → suits a_term (entry (entries_of e) (operand (own e) j)).rule.sort ≡ true
+        → RowMeans (levels (entries_of e)) cells b row (row_at before (own e) j)
+    term_meant j row is has suited =
+        meant_term (levels (entries_of e)) cells b row (value_at before (operand (own e) j))
+        (entry (entries_of e) (operand (own e) j)).rule.sort suited (is has)
+
+    pair_meant : (j : ℕ) (row : Row) → OperandMeant (entries_of e) (own e) (levels (entries_of e)) cells b before j row
+        → j < length (own e).rule.operands → suits a_formula (entry (entries_of e) (operand (own e) j)).rule.sort ≡ true
+        → PairMeans (levels (entries_of e)) cells b (pair_in row) (pair_at before (own e) j)
+    pair_meant j row is has suited =
+        meant_formula (levels (entries_of e)) cells b row (value_at before (operand (own e) j))
+        (entry (entries_of e) (operand (own e) j)).rule.sort suited (is has)
+
+    pub term_means : (row_for kind).operands ≡ one_term
+        → RowMeans (levels (entries_of e)) cells b v.x (row_at before (own e) 0)
+    term_means one = term_meant 0 v.x meant.x (omega (arith, many one)) (operands_as one).suits
+
+    pub terms_mean : (row_for kind).operands ≡ two_terms
+        → RowMeans (levels (entries_of e)) cells b v.x (row_at before (own e) 0)
+        × RowMeans (levels (entries_of e)) cells b v.y (row_at before (own e) 1)
+    terms_mean two = (
+      term_meant 0 v.x meant.x (omega (arith, many two)) (operands_as two).suits,
+      term_meant 1 v.y meant.y (omega (arith, many two)) (operands_as two).rest.suits,
     )
 
-    -- one term of the entry's own width
-    pub own_one : (rule_of k).operands ≡ one_term → (rule_of k).widths ≡ Widths.equal
-        → (v.x.width ≡ width_at s i) × RowKnown b v.x
-    own_one eq equal =
-        let es = entries s in
-        let e = entry_at s i in
-        let wide = both_true (eqb (width_of es e 0) (width_at s i)) true (own_at eq equal) in
-        ((one_term_lem eq).0 ∙ eqb-true (width_of es e 0) (width_at s i) wide.0, (one_term_lem eq).1)
-
-    -- two terms of the entry's own width
-    pub own_two : (rule_of k).operands ≡ two_terms → (rule_of k).widths ≡ Widths.equal
-        → RowKnown b v.x × (RowKnown b v.y × (v.x.width ≡ v.y.width))
-    own_two eq equal =
-        let es = entries s in
-        let e = entry_at s i in
-        let wide = both_true (eqb (width_of es e 0) (width_at s i)) (eqb (width_of es e 1) (width_at s i) && true)
-        (own_at eq equal) in
-        let second = both_true (eqb (width_of es e 1) (width_at s i)) true wide.1 in
-        let t = two_terms_lem eq in (
-          t.0.1,
-          (
-            t.1.1,
-            t.0.0 ∙ eqb-true (width_of es e 0) (width_at s i) wide.0
-                ∙ sym (eqb-true (width_of es e 1) (width_at s i) second.0) ∙ sym t.1.0,
-          ),
-        )
-
-    -- two terms of one width
-    pub alike_two : (rule_of k).operands ≡ two_terms → (rule_of k).widths ≡ alike
-        → RowKnown b v.x × (RowKnown b v.y × (v.x.width ≡ v.y.width))
-    alike_two eq alikes =
-        let es = entries s in
-        let e = entry_at s i in
-        let t = two_terms_lem eq in
-        (t.0.1, (t.1.1, t.0.0 ∙ eqb-true (width_of es e 0) (width_of es e 1) (widths_at alikes) ∙ sym t.1.0))
-
-    -- a condition and two terms of the entry's own width
-    pub choosing : (rule_of k).operands ≡ formula_two_terms → (rule_of k).widths ≡ Widths.equal
-        → PairKnown b (pair_in v.x) × (RowKnown b v.y × (RowKnown b v.z × (v.y.width ≡ v.z.width)))
-    choosing eq equal =
-        let es = entries s in
-        let e = entry_at s i in
-        let wide = both_true (eqb (width_of es e 1) (width_at s i)) (eqb (width_of es e 2) (width_at s i) && true)
-        (own_at eq equal) in
-        let second = both_true (eqb (width_of es e 2) (width_at s i)) true wide.1 in
-        let y = term_held 1 v.y g.y (omega (arith, many_at eq)) (operands_at eq).rest.suits in
-        let z = term_held 2 v.z g.z (omega (arith, many_at eq)) (operands_at eq).rest.rest.suits in (
-          pair_held 0 v.x g.x (omega (arith, many_at eq)) (operands_at eq).suits,
-          (
-            y.1,
-            (
-              z.1,
-              y.0 ∙ eqb-true (width_of es e 1) (width_at s i) wide.0
-                  ∙ sym (eqb-true (width_of es e 2) (width_at s i) second.0) ∙ sym z.0,
-            ),
-          ),
-        )
-
-    pub one_pair : (rule_of k).operands ≡ one_formula → PairKnown b (pair_in v.x)
-    one_pair eq = pair_held 0 v.x g.x (omega (arith, many_at eq)) (operands_at eq).suits
-
-    pub two_pairs : (rule_of k).operands ≡ two_formulas → PairKnown b (pair_in v.x) × PairKnown b (pair_in v.y)
-    two_pairs eq = (
-      pair_held 0 v.x g.x (omega (arith, many_at eq)) (operands_at eq).suits,
-      pair_held 1 v.y g.y (omega (arith, many_at eq)) (operands_at eq).rest.suits,
+    pub choice_means : (row_for kind).operands ≡ formula_two_terms
+        → PairMeans (levels (entries_of e)) cells b (pair_in v.x) (pair_at before (own e) 0)
+        × (RowMeans (levels (entries_of e)) cells b v.y (row_at before (own e) 1)
+        × RowMeans (levels (entries_of e)) cells b v.z (row_at before (own e) 2))
+    choice_means choosing = (
+      pair_meant 0 v.x meant.x (omega (arith, many choosing)) (operands_as choosing).suits,
+      (
+        term_meant 1 v.y meant.y (omega (arith, many choosing)) (operands_as choosing).rest.suits,
+        term_meant 2 v.z meant.z (omega (arith, many choosing)) (operands_as choosing).rest.rest.suits,
+      ),
     )
 
-    -- a variable and a formula
-    pub bound : (rule_of k).operands ≡ variable_formula
-        → (operand (entry_at s i) 0 < count s) × PairKnown b (pair_in v.y)
-    bound eq = (
-      omega (arith, (operands_at eq).below, g.inside),
-      pair_held 1 v.y g.y (omega (arith, many_at eq)) (operands_at eq).rest.suits,
+    pub pair_means : (row_for kind).operands ≡ one_formula
+        → PairMeans (levels (entries_of e)) cells b (pair_in v.x) (pair_at before (own e) 0)
+    pair_means one = pair_meant 0 v.x meant.x (omega (arith, many one)) (operands_as one).suits
+
+    pub pairs_mean : (row_for kind).operands ≡ two_formulas
+        → PairMeans (levels (entries_of e)) cells b (pair_in v.x) (pair_at before (own e) 0)
+        × PairMeans (levels (entries_of e)) cells b (pair_in v.y) (pair_at before (own e) 1)
+    pairs_mean two = (
+      pair_meant 0 v.x meant.x (omega (arith, many two)) (operands_as two).suits,
+      pair_meant 1 v.y meant.y (omega (arith, many two)) (operands_as two).rest.suits,
     )
 
-    -- ---- their values
+    pub bound_means : (row_for kind).operands ≡ variable_formula
+        → PairMeans (levels (entries_of e)) cells b (pair_in v.y) (pair_at before (own e) 1)
+    bound_means bound = pair_meant 1 v.y meant.y (omega (arith, many bound)) (operands_as bound).rest.suits
 
-    module _ (n : ℕ) (cells : List ℕ) (before : List Value) where
-      term_meant : (j : ℕ) (row : Declared.Row) → OperandMeant (entries s) (entry_at s i) n cells b before j row
-          → j < length (rule_at s i).operands → suits a_term (entry (entries s) (operand (entry_at s i) j)).rule.sort ≡ true
-          → RowMeans n cells b row (row_at before (entry_at s i) j)
-      term_meant j row meant has suited =
-          meant_term n cells b row (value_at before (operand (entry_at s i) j))
-          (entry (entries s) (operand (entry_at s i) j)).rule.sort suited (meant has)
+-- what an addition asks
+module _ {kind : Kind} {e : CheckedEntry} {b : Builder} {v : Operands} (g : Given kind e b v) {cells : List ℕ} {s : Scratch}
+    (ready : Ready cells s b)
+  where
+    pub one_addable : (row_for kind).operands ≡ one_term → Addable cells s b v.x v.x
+    one_addable one = record { ready = ready; left = one_known g one; right = one_known g one; even = refl }
 
-      pair_meant : (j : ℕ) (row : Declared.Row) → OperandMeant (entries s) (entry_at s i) n cells b before j row
-          → j < length (rule_at s i).operands → suits a_formula (entry (entries s) (operand (entry_at s i) j)).rule.sort ≡ true
-          → PairMeans n cells b (pair_in row) (pair_at before (entry_at s i) j)
-      pair_meant j row meant has suited =
-          meant_formula n cells b row (value_at before (operand (entry_at s i) j))
-          (entry (entries s) (operand (entry_at s i) j)).rule.sort suited (meant has)
-
-      pub term_means : (rule_of k).operands ≡ one_term → OperandMeant (entries s) (entry_at s i) n cells b before 0 v.x
-          → RowMeans n cells b v.x (row_at before (entry_at s i) 0)
-      term_means eq x = term_meant 0 v.x x (omega (arith, many_at eq)) (operands_at eq).suits
-
-      pub terms_mean : (rule_of k).operands ≡ two_terms → OperandMeant (entries s) (entry_at s i) n cells b before 0 v.x
-          → OperandMeant (entries s) (entry_at s i) n cells b before 1 v.y
-          → RowMeans n cells b v.x (row_at before (entry_at s i) 0) × RowMeans n cells b v.y (row_at before (entry_at s i) 1)
-      terms_mean eq x y = (
-        term_meant 0 v.x x (omega (arith, many_at eq)) (operands_at eq).suits,
-        term_meant 1 v.y y (omega (arith, many_at eq)) (operands_at eq).rest.suits,
-      )
-
-      pub choice_means : (rule_of k).operands ≡ formula_two_terms
-          → OperandMeant (entries s) (entry_at s i) n cells b before 0 v.x
-          → OperandMeant (entries s) (entry_at s i) n cells b before 1 v.y
-          → OperandMeant (entries s) (entry_at s i) n cells b before 2 v.z
-          → PairMeans n cells b (pair_in v.x) (pair_at before (entry_at s i) 0)
-          × (RowMeans n cells b v.y (row_at before (entry_at s i) 1) × RowMeans n cells b v.z (row_at before (entry_at s i) 2))
-      choice_means eq x y z = (
-        pair_meant 0 v.x x (omega (arith, many_at eq)) (operands_at eq).suits,
-        (
-          term_meant 1 v.y y (omega (arith, many_at eq)) (operands_at eq).rest.suits,
-          term_meant 2 v.z z (omega (arith, many_at eq)) (operands_at eq).rest.rest.suits,
-        ),
-      )
-
-      pub pair_means : (rule_of k).operands ≡ one_formula → OperandMeant (entries s) (entry_at s i) n cells b before 0 v.x
-          → PairMeans n cells b (pair_in v.x) (pair_at before (entry_at s i) 0)
-      pair_means eq x = pair_meant 0 v.x x (omega (arith, many_at eq)) (operands_at eq).suits
-
-      pub pairs_mean : (rule_of k).operands ≡ two_formulas → OperandMeant (entries s) (entry_at s i) n cells b before 0 v.x
-          → OperandMeant (entries s) (entry_at s i) n cells b before 1 v.y
-          → PairMeans n cells b (pair_in v.x) (pair_at before (entry_at s i) 0)
-          × PairMeans n cells b (pair_in v.y) (pair_at before (entry_at s i) 1)
-      pairs_mean eq x y = (
-        pair_meant 0 v.x x (omega (arith, many_at eq)) (operands_at eq).suits,
-        pair_meant 1 v.y y (omega (arith, many_at eq)) (operands_at eq).rest.suits,
-      )
-
-      pub bound_means : (rule_of k).operands ≡ variable_formula
-          → OperandMeant (entries s) (entry_at s i) n cells b before 1 v.y
-          → PairMeans n cells b (pair_in v.y) (pair_at before (entry_at s i) 1)
-      bound_means eq y = pair_meant 1 v.y y (omega (arith, many_at eq)) (operands_at eq).rest.suits
-
-    -- ---- its work
-
-    -- a term's
-    pub row_enters : {n L : ℕ} {before : List Value} {cells w cells' w' : List ℕ} {b' : Builder} {row : Declared.Row}
-        {m : Work Row.Row} → suits a_term (rule_of k).sort ≡ true
-        → work_of (rule_of k).kind (entries s) n L before (entry_at s i) ≡ as_row m → Makes n cells w b m cells' w' b' row
-        → Enters (entries s) (entry_at s i) n L before cells w b cells' w' b' row
-    row_enters {n} {L} {before} {cells} {w} {cells'} {w'} {b'} {row} {m} sorted is_work makes =
-        let work = ap (λ (j : ℕ). work_of (rule_of j).kind (entries s) n L before (entry_at s i)) is ∙ is_work in
-        let suited : suits a_term (rule_at s i).sort ≡ true = rw is sorted in
-        let steps : (as_row m).steps ≡ m.steps = append-nil m.steps in
-        record {
-          after =
-              subst (λ (x : Work Value). After cells w b x.steps cells' w' b') (sym work) (rw steps makes.after);
-          means =
-              subst (λ (x : Work Value). Meant (rule_at s i).sort n cells' b' row x.value) (sym work)
-              (term_meant_by (rule_at s i).sort n cells' b' row m.value suited makes.means);
-        }
-
-    -- a formula's
-    pub truth_enters : {n L : ℕ} {before : List Value} {cells w cells' w' : List ℕ} {b' : Builder} {row : Declared.Row}
-        {m : Work Formula.Pair} → (rule_of k).sort ≡ Sort.formula
-        → work_of (rule_of k).kind (entries s) n L before (entry_at s i) ≡ as_truth m
-        → Judges n cells w b m cells' w' b' (pair_in row)
-        → Enters (entries s) (entry_at s i) n L before cells w b cells' w' b' row
-    truth_enters {n} {L} {before} {cells} {w} {cells'} {w'} {b'} {row} {m} sorted is_work judges =
-        let work = ap (λ (j : ℕ). work_of (rule_of j).kind (entries s) n L before (entry_at s i)) is ∙ is_work in
-        let sort = ap (λ (j : ℕ). (rule_of j).sort) is ∙ sorted in
-        let steps : (as_truth m).steps ≡ m.steps = append-nil m.steps in
-        record {
-          after =
-              subst (λ (x : Work Value). After cells w b x.steps cells' w' b') (sym work) (rw steps judges.after);
-          means =
-              subst (λ (x : Work Value). Meant (rule_at s i).sort n cells' b' row x.value) (sym work)
-              (subst (λ (t : Sort). Meant t n cells' b' row (Run.truth m.value)) (sym sort)
-              (pair_in_lem row judges.means));
-        }
+    pub two_addable : (row_for kind).operands ≡ two_terms → (row_for kind).widths ≡ Widths.equal → Addable cells s b v.x v.y
+    two_addable two equal =
+        record { ready = ready; left = (two_known g two).0; right = (two_known g two).1; even = two_own g two equal }
