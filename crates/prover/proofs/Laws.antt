@@ -1,6 +1,5 @@
 -- Laws of the code's own vocabulary, by subject, each file resting on those above it.
 -- the run over all entries
-pub mod Operand
 pub mod Run
 pub mod Meant
 pub mod Turn

@@ -1,3 +1,3 @@
--- What the promises of this crate say, beyond document 01's own definitions.
+-- What the promises of this crate say, beyond the definitions of crate meaning.
 pub mod Kept
 pub mod Answer

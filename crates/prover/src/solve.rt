@@ -1,170 +1,184 @@
-// Solve: refusals 1 to 11 in order, the run, and what is left in the buffers.
-ghost use Rattle.std.specs.Prelude.{◌≡◌, length};
+//! Solve: the refusals in order, the run, and what is left in the buffers.
+ghost use Rattle.std.specs.Prelude.{◌≡◌, ◌*◌, ◌≤◌, IfOk, length};
 ghost use Rattle.meaning.specs.Solve.{input_refusal, solve, solve_unnamed, unnamed_limit};
-ghost use Rattle.prover.specs.Kept.{Reaches, Runs, Opened, OperandReads, Ran};
-ghost use Rattle.prover.specs.Answer.{Roomy, Finishes, Meets};
+ghost use Rattle.prover.specs.Kept.{OperandReads, OperandsRead, Ran};
+ghost use Rattle.prover.specs.Answer.{outcome, used_slots, cleared_behind, Meets};
 
-use crate::answer;
-use crate::answer::Answer;
-use diagram::builder::Builder;
+use crate::answer::{Refusal, Solved, Verdict};
+use diagram::builder::{Builder, Made, NoRoom};
+use diagram::count::TableMarks;
+use diagram::scratch::Scratch;
+use diagram::table;
 use diagram::table::Cell;
-use diagram::{builder, scratch, table};
 use entry::value::Operands;
 use entry::{rows, value};
-use sheet::{check, read};
+use formula::pair::Pair;
+use sheet::checked::{CheckedEntry, CheckedSheet};
 use term::row::Row;
 
-// The value of operand k of entry i, whose body this is and which has so many operands; nothing where there is no such
-// operand.
-#[tactic(auto, using(crate::proofs::Laws::Operand::width_inside, crate::proofs::Laws::Operand::value_inside))]
-fn operand(s: &[u8], kept: &[u32], i: usize, body: &[u8], many: usize, k: usize) -> Row
-    requires reaches { Reaches s.now kept.now i }
-    requires opened { Opened s.now i body.now many }
-    ensures { OperandReads s.now kept.now i k result }
+// The least length of the work buffer: 256 entries of 32 numbers.
+const WORK_NEEDED: usize = 8192;
+
+// The value of operand k of an entry; an empty row where there is no such operand: no Option, since the work on an entry takes
+// three rows and reads those that its kind has.
+#[tactic(auto, using(sheet::proofs::Laws::Check::checked_laid))]
+fn operand(entry: CheckedEntry, kept: &[u32], k: usize) -> Row
+    requires { 8192 ≤ length kept.now }
+    ensures { OperandReads entry.entry.sheet.bytes.now kept.now entry.entry.index k result }
 {
-    if many <= k {
+    if entry.operand_count() <= k {
         return Row {
-            bits: [0u32; 32],
+            bits: [0; 32],
             width: 0,
         };
     }
-    let o = read::operand(body, k);
-    let width = read::width(s, o);
-    rows::value_at(kept, o, width as usize)
+    let operand = entry.operand(k);
+    rows::value_at(kept, operand.index, operand.width as usize)
 }
 
-// Kind and body are read once an entry.
-#[tactic(auto, using(crate::proofs::Laws::Operand::part_inside, crate::proofs::Laws::Operand::opened))]
-fn operands(s: &[u8], kept: &[u32], i: usize) -> Operands
-    requires { Reaches s.now kept.now i }
-    ensures { OperandReads s.now kept.now i 0 result.x ×
-        (OperandReads s.now kept.now i 1 result.y ×
-        OperandReads s.now kept.now i 2 result.z) }
+// The values of an entry's operands.
+fn operands(entry: CheckedEntry, kept: &[u32]) -> Operands
+    requires { 8192 ≤ length kept.now }
+    ensures { OperandsRead entry.entry.sheet.bytes.now kept.now entry.entry.index result }
 {
-    let kind = read::kind(s, i);
-    let many = kind.operands as usize;
-    let body = read::part(s, i, kind.body as usize);
-    let x = operand(s, kept, i, body, many, 0);
-    let y = operand(s, kept, i, body, many, 1);
-    let z = operand(s, kept, i, body, many, 2);
-    Operands { x, y, z }
+    Operands {
+        x: operand(entry, kept, 0),
+        y: operand(entry, kept, 1),
+        z: operand(entry, kept, 2),
+    }
 }
 
-// The last state, and the numbers of must and may.
-#[derive(Clone, Copy)]
-struct Outcome {
-    at: Builder,
-    must: u32,
-    may: u32,
-}
-
-// Every entry, in entry order, needed by the last one or not; but once a node had no slot, nothing that follows counts.
-fn run(s: &[u8], limit: usize, t: &mut [Cell], kept: &mut [u32], w: &mut [u32]) -> Outcome
-    requires { Runs s.now limit t.old kept.old }
-    ensures { Ran s.now limit t.old t.new result.at result.must result.may }
+// Every entry, in entry order, needed by the last one or not. Gives the last state and the last entry's pair.
+fn run(
+    sheet: CheckedSheet,
+    limit: u32,
+    t: &mut [Cell],
+    kept: &mut [u32],
+    words: &mut [u32],
+) -> Result<Made<Pair>, NoRoom>
+    requires room { 8192 ≤ length kept.old }
+    requires small { length t.old ≤ 3145728 }
+    ensures { Ran sheet.entry.bytes.now limit t.old t.new result }
 {
-    let mut marks = [0u32; 32768];
-    let n = read::count(s);
-    let mut at = builder::begin(t, w);
-    let mut i = 0;
-    while i < n {
-        if at.full {
-            return Outcome {
-                at,
-                must: 0,
-                may: 0,
-            };
-        }
-        let v = operands(s, kept, i);
-        let made = value::work(at, t, w, &mut marks, limit, s, i, v);
+    let mut marks = TableMarks::new();
+    let mut s = Scratch::new(t, words);
+    let mut at = Builder::new();
+    let count = sheet.count();
+    for i in 0..count {
+        let entry = sheet.entry(i);
+        let v = operands(entry, kept);
+        let made = value::work(at, t, &mut s, &mut marks, limit, entry, v)?;
         at = made.at;
-        let row = made.row;
-        rows::keep(kept, i, row);
-        i += 1;
+        rows::keep(kept, i, &made.value);
     }
-    let last = rows::value_at(kept, n - 1, 0);
-    Outcome {
+    Ok(Made {
         at,
-        must: last.bits[0],
-        may: last.bits[1],
-    }
+        value: rows::pair_at(kept, count - 1),
+    })
+}
+
+// With scratch of our own, N numbers. Not inlined, nor is the next one: the stack then holds one of their arrays, and only while
+// it runs.
+#[inline(never)]
+fn run_in_own<const N: usize>(
+    sheet: CheckedSheet,
+    limit: u32,
+    t: &mut [Cell],
+    kept: &mut [u32],
+) -> Result<Made<Pair>, NoRoom>
+    requires own { N ≤ 32768 }
+    requires room { 8192 ≤ length kept.old }
+    requires small { length t.old ≤ 3145728 }
+    ensures { Ran sheet.entry.bytes.now limit t.old t.new result }
+{
+    let mut own = [0; N];
+    run(sheet, limit, t, kept, &mut own)
+}
+
+// With rows of our own, and the lent work buffer for scratch.
+#[inline(never)]
+fn run_in_work(
+    sheet: CheckedSheet,
+    limit: u32,
+    t: &mut [Cell],
+    work: &mut [u32],
+) -> Result<Made<Pair>, NoRoom>
+    requires small { length t.old ≤ 3145728 }
+    ensures { Ran sheet.entry.bytes.now limit t.old t.new result }
+{
+    let mut kept = [0; WORK_NEEDED];
+    run(sheet, limit, t, &mut kept, work)
 }
 
 // With the lent work buffer for the rows and scratch of our own, or, where more is lent than that, the other way round.
 // For a table of up to 2,048 slots scratch is our own, eight numbers a slot: less to clear.
-fn run_somewhere(s: &[u8], limit: usize, t: &mut [Cell], work: &mut [u32]) -> Outcome
-    requires { Runs s.now limit t.old work.old }
-    ensures { Ran s.now limit t.old t.new result.at result.must result.may }
+fn run_somewhere(
+    sheet: CheckedSheet,
+    limit: u32,
+    t: &mut [Cell],
+    work: &mut [u32],
+) -> Result<Made<Pair>, NoRoom>
+    requires room { 8192 ≤ length work.old }
+    requires small { length t.old ≤ 3145728 }
+    ensures { Ran sheet.entry.bytes.now limit t.old t.new result }
 {
     if table::slots(t) <= 2048 {
-        let mut own = [0u32; 16384];
-        return run(s, limit, t, work, &mut own);
+        return run_in_own::<16384>(sheet, limit, t, work);
     }
     if work.len() <= 32768 {
-        let mut own = [0u32; 32768];
-        return run(s, limit, t, work, &mut own);
+        return run_in_own::<32768>(sheet, limit, t, work);
     }
-    let mut kept = [0u32; 8192];
-    run(s, limit, t, &mut kept, work)
+    run_in_work(sheet, limit, t, work)
 }
 
-// The first refusal among 1 to 10, or 0.
-#[tactic(auto, using(crate::proofs::Laws::Answer::input_check, crate::proofs::Laws::Answer::input_nine, crate::proofs::Laws::Answer::input_ten, crate::proofs::Laws::Answer::input_none))]
-fn refusal(s: &[u8], t: &[Cell], work: &[u32]) -> u32
-    ensures { result ≡ input_refusal s.now (length t.now) (length work.now) }
+// The sheet, if nothing is to be refused before the run: the sheet's own causes, then the table's length, then the work buffer's.
+#[tactic(auto, using(crate::proofs::Laws::Answer::input_nine, crate::proofs::Laws::Answer::input_ten, crate::proofs::Laws::Answer::input_none))]
+fn check_input<'a>(bytes: &'a [u8], t: &[Cell], work: &[u32]) -> Result<CheckedSheet<'a>, Refusal>
+    ensures refusal { outcome result ≡ input_refusal bytes.now (length t.now) (length work.now) }
+    ensures bytes { IfOk result (λ sheet. sheet.bytes.now ≡ bytes.now) }
 {
-    let checked = check::check(s).number();
-    if checked != 0 {
-        return checked;
+    let sheet = CheckedSheet::new(bytes)?;
+    if table::bad_length(t) {
+        return Err(Refusal::Table);
     }
-    let bad = table::bad_length(t);
-    if bad {
-        return 9;
+    if work.len() < WORK_NEEDED {
+        return Err(Refusal::Work);
     }
-    if work.len() < 8192 {
-        return 10;
-    }
-    0
+    Ok(sheet)
 }
 
-// The answer after a run: 11 and a table of zeros, or the numbers, and zeros behind the nodes.
-#[tactic(auto, using(crate::proofs::Laws::Answer::meets_free))]
-fn finish(t: &mut [Cell], end: Outcome) -> Answer
-    requires { Roomy t.old end.at }
-    ensures { Finishes t.old end.at end.must end.may result t.new }
+// Zeros behind the nodes of a run; where there was no room, a table of zeros.
+fn clear_rest(t: &mut [Cell], end: &Result<Made<Pair>, NoRoom>)
+    requires { 3 * used_slots end.now ≤ length t.old }
+    ensures { t.new ≡ cleared_behind (used_slots end.now) t.old }
 {
-    let at = end.at;
-    if at.full {
-        scratch::clear(t);
-        return Answer::NoRoom;
-    }
-    let used = at.used;
-    let rest = 3 * used;
-    scratch::clear(&mut t[rest..]);
-    Answer::Solved {
-        verdict: answer::verdict(end.must, end.may),
-        must: end.must,
-        may: end.may,
-        used: used as u32,
-    }
+    let used = match end {
+        Ok(made) => made.at.used,
+        Err(NoRoom) => 0,
+    };
+    table::clear_behind(t, used);
 }
 
-// Solve at a limit, for any bytes and any buffers.
-#[tactic(auto, using(crate::proofs::Laws::Answer::input_passes, crate::proofs::Laws::Answer::meets_refused))]
-pub fn solve(s: &[u8], limit: u32, t: &mut [Cell], work: &mut [u32]) -> Answer
-    ensures { Meets (solve s.now limit (length t.old) (length work.old)) result
-        t.old work.old t.new work.new }
+/// Solves a sheet at a limit, for any bytes and any buffers.
+#[tactic(auto, using(crate::proofs::Laws::Answer::input_passes))]
+pub fn solve(bytes: &[u8], limit: u32, t: &mut [Cell], work: &mut [u32]) -> Result<Solved, Refusal>
+    ensures { Meets (solve bytes.now limit (length t.old) (length work.old)) result t.old work.old t.new work.new }
 {
-    let refused = refusal(s, t, work);
-    if refused != 0 {
-        return Answer::Refused(refused);
-    }
-    let end = run_somewhere(s, limit as usize, t, work);
-    scratch::clear(work);
-    finish(t, end)
+    let sheet = check_input(bytes, t, work)?;
+    let end = run_somewhere(sheet, limit, t, work);
+    work.fill(0);
+    clear_rest(t, &end);
+    let Made { at, value } = end?;
+    let Pair { must, may } = value;
+    Ok(Solved {
+        verdict: Verdict::of(must, may),
+        must,
+        may,
+        used: at.used as u32,
+    })
 }
 
-// The limit where none is named.
+/// The limit where none is named.
 #[tactic(auto, unfolding(meaning::specs::Solve::unnamed_limit))]
 pub fn unnamed_limit(slots: usize) -> u32
     ensures { result ≡ unnamed_limit slots }
@@ -172,11 +186,9 @@ pub fn unnamed_limit(slots: usize) -> u32
     1000
 }
 
-// Solve without a named limit.
-pub fn solve_unnamed(s: &[u8], t: &mut [Cell], work: &mut [u32]) -> Answer
-    ensures { Meets (solve_unnamed s.now (length t.old) (length work.old)) result
-        t.old work.old t.new work.new }
+/// Solves a sheet without a named limit.
+pub fn solve_unnamed(bytes: &[u8], t: &mut [Cell], work: &mut [u32]) -> Result<Solved, Refusal>
+    ensures { Meets (solve_unnamed bytes.now (length t.old) (length work.old)) result t.old work.old t.new work.new }
 {
-    let limit = unnamed_limit(t.len() / 3);
-    solve(s, limit, t, work)
+    solve(bytes, unnamed_limit(table::slots(t)), t, work)
 }

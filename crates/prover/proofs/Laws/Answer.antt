@@ -7,23 +7,28 @@ use mathlib.Core.List.{List, ◌++◌}
 use lib.Dec.{eqb, ltb}
 use lib.ListN.{length, replicate}
 use borrow.Author.Tests.{eq-eqb, ne_eqb, eqb-true, eqb-false, lt-ltb, le-ltb, ltb-false}
-use borrow.Rule.Slice.PartMut.{mid_of, put_mid}
+use Rattle.std.specs.Prelude.{◌≢◌, Result, Ok, Err}
 use Rattle.meaning.specs.Sheet.{entries}
 use Rattle.meaning.specs.Check.{first, check}
 use Rattle.meaning.specs.Table.{enter, lay_all}
-use Rattle.meaning.specs.Solve.{bad_table, input_refusal, verdict_of, worked, solve, no_room, answered}
+use Rattle.meaning.specs.Solve.{bad_table, input_refusal, verdict_of, worked, solve, answered}
 use Rattle.meaning.specs.Solve.{unnamed_limit, solve_unnamed}
 use Rattle.meaning.proofs.Laws.Table.{enter_again}
 use Rattle.meaning.proofs.Laws.Value.{refuse_none}
 use Rattle.meaning.proofs.Laws.Solve.{nodes_at, pair_at, nodes_single}
-use Rattle.diagram.specs.declared.builder.Builder.{Builder}
+use Rattle.sheet.specs.declared.check.Refusal.TheVariants as Sheet
+use Rattle.diagram.specs.declared.builder.Made.{Made}
+use Rattle.diagram.specs.declared.builder.NoRoom.{NoRoom}
 use Rattle.diagram.proofs.Laws.Nodes.{nodes_of_length}
 use Rattle.diagram.proofs.Laws.Cells.{length_small}
+use Rattle.formula.specs.declared.pair.Pair.{Pair}
 use Rattle.prover.specs.Kept.{Ran}
-use Rattle.prover.specs.Answer.{Meets}
-use Rattle.prover.specs.declared.answer.Answer.{Answer}
-use Rattle.prover.specs.declared.answer.Answer.TheVariants.{Refused, NoRoom, Solved}
-use Rattle.prover.proofs.Laws.Left.{lay_nodes, rest_cleared}
+use Rattle.prover.specs.Answer.{verdict_number, number_of, cleared_behind, Meets}
+use Rattle.prover.specs.declared.answer.Verdict.{Verdict}
+use Rattle.prover.specs.declared.answer.Refusal.{Refusal}
+use Rattle.prover.specs.declared.answer.Refusal.TheVariants as Cause
+use Rattle.prover.specs.declared.answer.Solved.{Solved}
+use Rattle.prover.proofs.Laws.Left.{lay_nodes}
 
 -- ---- 1 to 10
 
@@ -72,78 +77,78 @@ input_passes s table work none =
 
 -- ---- a refusal, and none
 
-module _ (s : List ℕ) (L : ℕ) (t w : List ℕ) (r : ℕ) (is : r ≡ input_refusal s (length t) (length w)) where
-  pub meets_refused : (r ≡ 0 → ⊥) → Meets (solve s L (length t) (length w)) (Refused r) t w t w
+pub some_number : (refusal : Refusal) → number_of refusal ≢ 0
+some_number (Cause.Sheet Sheet.Short) is = omega arith
+some_number (Cause.Sheet Sheet.Kinds) is = omega arith
+some_number (Cause.Sheet Sheet.Places) is = omega arith
+some_number (Cause.Sheet Sheet.Operands) is = omega arith
+some_number (Cause.Sheet Sheet.Widths) is = omega arith
+some_number (Cause.Sheet Sheet.Range) is = omega arith
+some_number (Cause.Sheet Sheet.Levels) is = omega arith
+some_number (Cause.Sheet Sheet.Term) is = omega arith
+some_number Cause.Table is = omega arith
+some_number Cause.Work is = omega arith
+some_number Cause.NoRoom is = omega arith
+
+module _ (s : List ℕ) (L : ℕ) (t w : List ℕ) where
+  pub meets_refused : (refusal : Refusal) → number_of refusal ≡ input_refusal s (length t) (length w)
+      → Meets (solve s L (length t) (length w)) (Err refusal) t w t w
   unfolding solve
-  meets_refused some =
-      let other = ne_eqb r 0 some in
+  meets_refused refusal is =
+      let other = ne_eqb (number_of refusal) 0 (some_number refusal) in
       record { numbers = rw (← is, other) refl; table = rw (← is, other) refl; work = rw (← is, other) refl }
 
-  pub meets_worked : (a : Answer) (t' w' w'' : List ℕ) → r ≡ 0 → w'' ≡ w'
-      → Meets (worked (entries s) L (length t) (length w)) a t w t' w' → Meets (solve s L (length t)
-      (length w)) a t w t' w''
+  pub meets_worked : (a : Result Solved Refusal) (t' w' w'' : List ℕ) → 0 ≡ input_refusal s (length t) (length w) → w'' ≡ w'
+      → Meets (worked (entries s) L (length t) (length w)) a t w t' w' → Meets (solve s L (length t) (length w)) a t w t' w''
   unfolding solve
   meets_worked a t' w' w'' none same meets =
-      let zero = eq-eqb r 0 none in
-      record {
-        numbers = rw (← is, zero) meets.numbers;
-        table = rw (← is, zero) meets.table;
-        work = rw (← is, zero) (same ∙ meets.work);
-      }
+      record { numbers = rw (← none) meets.numbers; table = rw (← none) meets.table; work = rw (← none) (same ∙ meets.work) }
 
-pub meets_unnamed : (s : List ℕ) (t w : List ℕ) (a : Answer) (t' w' : List ℕ) (limit : ℕ) → limit ≡ unnamed_limit
-    (length t / 3)
-    → Meets (solve s limit (length t) (length w)) a t w t' w' → Meets (solve_unnamed s (length t) (length w)) a t w t' w'
+pub meets_unnamed : (s : List ℕ) (t w : List ℕ) (a : Result Solved Refusal) (t' w' : List ℕ) (limit : ℕ)
+    → limit ≡ unnamed_limit (length t / 3) → Meets (solve s limit (length t) (length w)) a t w t' w'
+    → Meets (solve_unnamed s (length t) (length w)) a t w t' w'
 unfolding solve_unnamed
 meets_unnamed s t w a t' w' limit is meets = rw is at meets
 
 -- ---- 11, and 0
 
-module _ {s : List ℕ} {L : ℕ} {cells₀ cells : List ℕ} {b : Builder} {must may : ℕ}
-    (ran : Ran s L cells₀ cells b must may)
-    (w : List ℕ) where
-  full_worked : b.full ≡ true → worked (entries s) L (length cells₀) (length w) ≡ no_room (length cells₀) (length w)
+module _ {s : List ℕ} {L : ℕ} {cells₀ cells : List ℕ} (w : List ℕ) where
+  pub meets_lacking : {e : NoRoom} → Ran s L cells₀ cells (Err e)
+      → Meets (worked (entries s) L (length cells₀) (length w)) (Err Cause.NoRoom) cells₀ w (cleared_behind 0 cells)
+      (replicate (length w) 0)
   unfolding worked
-  full_worked full = rw (sym ran.full ∙ full) refl
+  meets_lacking ran =
+      let long : length cells - 0 ≡ length cells₀ = omega (arith, ran.long) in
+      rw (lt-ltb (length cells₀ / 3) (length (nodes_at s L)) ran.ended)
+      (record { numbers = refl; table = ap (λ n. replicate n 0) long; work = refl })
 
-  pub meets_full : b.full ≡ true → (cells' : List ℕ) → cells' ≡ replicate (length cells) 0
-      → Meets (worked (entries s) L (length cells₀) (length w)) NoRoom cells₀ w cells' (replicate (length w) 0)
-  meets_full full cells' is =
-      rw (full_worked full)
-      (record { numbers = refl; table = is ∙ ap (λ n. replicate n 0) ran.long; work = refl })
+  module _ {end : Made Pair} (ran : Ran s L cells₀ cells (Ok end)) where
+    must_number : (enter (pair_at s L).must (nodes_at s L)).number ≡ end.value.must
+    must_number = (enter_again (pair_at s L).must (nodes_at s L) end.value.must (nodes_single s L) ran.ended.must_is).0
 
-  module _ (free : b.full ≡ false) where
-    free_worked : worked (entries s) L (length cells₀) (length w) ≡ answered (length cells₀) (length w)
+    may_number : (enter (pair_at s L).may (nodes_at s L)).number ≡ end.value.may
+    may_number = (enter_again (pair_at s L).may (nodes_at s L) end.value.may (nodes_single s L) ran.ended.may_is).0
+
+    used_number : length (nodes_at s L) ≡ end.at.used
+    used_number = ap length (sym ran.ended.entered) ∙ nodes_of_length cells end.at.used
+
+    inside : 3 * end.at.used ≤ length cells
+    inside = omega (arith, ran.ended.room, ran.long)
+
+    reached_worked : worked (entries s) L (length cells₀) (length w) ≡ answered (length cells₀) (length w)
         (nodes_at s L) (pair_at s L)
     unfolding worked
-    free_worked = rw (sym ran.full ∙ free) refl
+    reached_worked =
+        rw (le-ltb (length cells₀ / 3) (length (nodes_at s L)) (omega (arith, used_number, ran.ended.room))) refl
 
-    must_number : (enter (pair_at s L).must (nodes_at s L)).number ≡ must
-    must_number = (enter_again (pair_at s L).must (nodes_at s L) must (nodes_single s L) (ran.must_is free)).0
-
-    may_number : (enter (pair_at s L).may (nodes_at s L)).number ≡ may
-    may_number = (enter_again (pair_at s L).may (nodes_at s L) may (nodes_single s L) (ran.may_is free)).0
-
-    used_number : length (nodes_at s L) ≡ b.used
-    used_number = ap length (sym (ran.entered free)) ∙ nodes_of_length cells b.used
-
-    left : (ys : List ℕ) → ys ≡ replicate (length (mid_of (3 * b.used) (length cells - 3 * b.used) cells)) 0
-        → put_mid (3 * b.used) (length cells - 3 * b.used) cells ys
+    left : cleared_behind end.at.used cells
         ≡ lay_all (nodes_at s L) ++ replicate (length cells₀ - 3 * length (nodes_at s L)) 0
-    left ys is =
-        let room : 3 * b.used ≤ length cells = omega (arith, ran.room free, ran.long) in
-        rest_cleared cells (3 * b.used) ys room is
-        ∙ rw (← lay_nodes cells b.used room, ran.entered free, used_number, ran.long) refl
+    left = rw (← lay_nodes cells end.at.used inside, ran.ended.entered, used_number, ran.long) refl
 
-    pub meets_free : (verdict : ℕ) (ys : List ℕ) → verdict ≡ verdict_of must may
-        → ys ≡ replicate (length (mid_of (3 * b.used) (length cells - 3 * b.used) cells)) 0
-        → Meets (worked (entries s) L (length cells₀) (length w)) (Solved verdict must may b.used) cells₀ w
-        (put_mid (3 * b.used) (length cells - 3 * b.used) cells ys) (replicate (length w) 0)
-    meets_free verdict ys is_verdict is =
-        rw free_worked
-        (record {
-          numbers = rw
-              (must_number, may_number, used_number, is_verdict) refl;
-          table = left ys is;
-          work = refl;
-        })
+    pub meets_reached : (verdict : Verdict) → verdict_number verdict ≡ verdict_of end.value.must end.value.may
+        → Meets (worked (entries s) L (length cells₀) (length w))
+        (Ok (record { verdict = verdict; must = end.value.must; may = end.value.may; used = end.at.used })) cells₀ w
+        (cleared_behind end.at.used cells) (replicate (length w) 0)
+    meets_reached verdict is_verdict =
+        rw reached_worked
+        (record { numbers = rw (must_number, may_number, used_number, is_verdict) refl; table = left; work = refl })

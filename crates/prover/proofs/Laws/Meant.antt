@@ -6,34 +6,25 @@ use mathlib.Core.List.{List}
 use lib.ListN.{length, get_or}
 use Rattle.meaning.specs.Kind.{Sort}
 use Rattle.meaning.specs.Diagram.{Tree}
-use Rattle.meaning.specs.Row.{known}
 use Rattle.meaning.specs.Row as Rows
-use Rattle.meaning.specs.Run.{Value, row_of, pair_of}
+use Rattle.meaning.specs.Run.{Value, row_of}
 use Rattle.diagram.specs.State.{After}
 use Rattle.diagram.specs.declared.builder.Builder.{Builder}
+use Rattle.diagram.specs.declared.scratch.Scratch.{Scratch}
 use Rattle.term.specs.Row.{RowMeans}
 use Rattle.term.specs.declared.row.Row.{Row}
-use Rattle.term.proofs.Laws.Rows.{after_bit, after_row, row_known, is_used}
+use Rattle.term.proofs.Laws.Rows.{after_row, row_known}
+use Rattle.formula.proofs.Laws.Work.{tree_later, tree_known}
 use Rattle.entry.specs.Value.{Meant, Held}
 use Rattle.prover.proofs.Laws.Run.{Wide}
 
 -- they stand for it after some steps too
-pub meant_after : (sort : Sort) (n : ℕ) {cells w cells' w' : List ℕ} {b b' : Builder} {xs : List Tree} (row : Row)
-    (v : Value)
-    → After cells w b xs cells' w' b' → Meant sort n cells b row v → Meant sort n cells' b' row v
+pub meant_after : (sort : Sort) (n : ℕ) {cells cells' : List ℕ} {s' : Scratch} {b b' : Builder} {xs : List Tree} (row : Row)
+    (v : Value) → After cells b xs cells' s' b' → Meant sort n cells b row v → Meant sort n cells' b' row v
 meant_after Sort.variable n row v after m = after_row after m
 meant_after Sort.term n row v after m = after_row after m
 meant_after Sort.formula n row v after m =
-    let must = after_bit after n (get_or row.bits 0 0) (known (pair_of v).must) (λ free.
-    (m.must_is free, m.must_good free)) in
-    let may = after_bit after n (get_or row.bits 1 0) (known (pair_of v).may) (λ free.
-    (m.may_is free, m.may_good free)) in
-    record {
-      must_is = λ free. (must free).0;
-      must_good = λ free. (must free).1;
-      may_is = λ free. (may free).0;
-      may_good = λ free. (may free).1;
-    }
+    record { must = tree_later m.must after; may = tree_later m.may after }
 meant_after Sort.neither n row v after m = tt
 
 module _ (n : ℕ) (cells : List ℕ) (b : Builder) (row row' : Row)
@@ -44,8 +35,7 @@ module _ (n : ℕ) (cells : List ℕ) (b : Builder) (row row' : Row)
       record {
         long = wide;
         narrow = narrow;
-        bits = λ free i below.
-            rw (same i (omega arith)) (m.bits free i (omega (arith, m.long)));
+        bits = λ i below. rw (same i (omega arith)) (m.bits i (omega (arith, m.long)));
       }
 
   -- another row of the same numbers
@@ -55,10 +45,8 @@ module _ (n : ℕ) (cells : List ℕ) (b : Builder) (row row' : Row)
   meant_moved Sort.term v w wide is m = row_moved (row_of v) (wide ∙ sym is) m
   meant_moved Sort.formula v w wide is m =
       record {
-        must_is = λ free. rw (same 0 (omega arith)) (m.must_is free);
-        must_good = m.must_good;
-        may_is = λ free. rw (same 1 (omega arith)) (m.may_is free);
-        may_good = m.may_good;
+        must = record { is = rw (same 0 (omega arith)) m.must.is; good = m.must.good };
+        may = record { is = rw (same 1 (omega arith)) m.may.is; good = m.may.good };
       }
   meant_moved Sort.neither v w wide is m = tt
 
@@ -66,9 +54,5 @@ pub meant_held : (sort : Sort) (n : ℕ) (cells : List ℕ) (b : Builder) (row :
     → Meant sort n cells b row v → Held sort b w row
 meant_held Sort.variable n cells b row v w is m = (is, row_known m)
 meant_held Sort.term n cells b row v w is m = (is, row_known m)
-meant_held Sort.formula n cells b row v w is m =
-    record {
-      must = λ free. is_used cells b (get_or row.bits 0 0) (pair_of v).must (m.must_is free);
-      may = λ free. is_used cells b (get_or row.bits 1 0) (pair_of v).may (m.may_is free);
-    }
+meant_held Sort.formula n cells b row v w is m = record { must = tree_known m.must; may = tree_known m.may }
 meant_held Sort.neither n cells b row v w is m = tt

@@ -1,51 +1,40 @@
--- `run` works every entry, or stops when a node had no slot.
-use Rattle.std.proofs.Common.{arith, ◌<◌}
+-- `run` works every entry, or stops where there is no room.
+use Rattle.std.proofs.Common.{arith, ◌≡◌, ◌<◌, Ok, Err}
+use Rattle.std.proofs.lemmas.Result.{err_from_is_err_and}
 use Rattle.meaning.specs.Sheet.{count}
-use Rattle.sheet.proofs.Laws.Check.{checked_laid}
-use Rattle.prover.proofs.Laws.Turn.{going_start, going_next, going_full, going_done}
-use Rattle.prover.proofs.Laws.Turn.{operand_meant, operand_held, before_length}
+use Rattle.prover.proofs.Laws.Turn.{going_start, going_next, going_lacks, going_done, operands_held, entry_worked}
 use Rattle.prover.proofs.solve.run.Goals as goal
 
-pub count-n-requires : goal.count-n-requires
-count-n-requires c = omega (arith, (checked_laid _ c.requires.passed).records)
-
 pub loop-i-init : goal.loop-i-init
-loop-i-init c = going_start _ _ _ _ _ _ c.begin-at.ensures.0
+loop-i-init c = going_start _ _ _ _ _ _ c.new-s.ensures c.new-at.ensures
 
--- full before the last entry
-pub returns-then-at : goal.returns-then-at
-returns-then-at c = going_full c.loop-i.invariant c.begin-at.ensures.1.0 c.begin-at.ensures.1.1 c.if-at.true _ _
+pub work-requires : goal.work-requires
+work-requires c =
+    let entry = c.entry-entry.ensures in
+    let inside : c.loop-i.i < count c.args.sheet.bytes.now = omega (arith, c.loop-i-test.true, c.count-count.ensures.value) in
+    let operands = operands_held c.loop-i.invariant c.args.sheet.passed inside entry.sheet entry.index c.operands-v.ensures in
+    (omega arith, (c.loop-i.invariant.after.ready, (operands, omega arith)))
 
-pub work-made-requires-clause-operand_held : goal.work-made-requires-clause-operand_held
-work-made-requires-clause-operand_held c =
-    let inside : c.loop-i.i < count c.args.s.now = omega arith in
-    let going = c.loop-i.invariant in
-    let reads = c.operands-v.ensures in (
-      operand_held going c.requires.passed inside 0 _ reads.0,
-      (operand_held going c.requires.passed inside 1 _ reads.1.0, operand_held going c.requires.passed inside 2 _ reads.1.1),
-    )
-
-pub keep-requires : goal.keep-requires
-keep-requires c = let laid = checked_laid _ c.requires.passed in omega (arith, c.requires.room, laid.few)
-
-pub overflow_sub-n : goal.overflow_sub-n
-overflow_sub-n c = omega (arith, (checked_laid _ c.requires.passed).some)
-
-pub value_at-last-requires : goal.value_at-last-requires
-value_at-last-requires c =
-    let laid = checked_laid _ c.requires.passed in omega (arith, c.requires.room, laid.few, laid.some)
+pub returns-in_err-made : goal.returns-in_err-made
+returns-in_err-made c =
+    let entry = c.entry-entry.ensures in
+    let inside : c.loop-i.i < count c.args.sheet.bytes.now = omega (arith, c.loop-i-test.true, c.count-count.ensures.value) in
+    let lacks = entry_worked c.loop-i.invariant c.args.sheet.passed inside entry.sheet entry.index c.operands-v.ensures
+    c.work.new.t c.work.new.s (Err c.in_err-made.field-0.0) c.in_err-made.ensures in
+    let error = err_from_is_err_and c.from_residual.result c.from_residual.ensures.1 in
+    rw error.1 (going_lacks c.loop-i.invariant c.args.sheet.passed inside error.0 lacks)
 
 pub loop-i-preserved : goal.loop-i-preserved
 loop-i-preserved c =
-    let inside : c.loop-i.i < count c.args.s.now = omega arith in
-    let going = c.loop-i.invariant in
-    let reads = c.operands-v.ensures in
-    let enters = c.work-made.ensures _ (before_length going c.requires.passed inside)
-    (operand_meant going c.requires.passed inside 0 _ reads.0) (operand_meant going c.requires.passed inside 1 _ reads.1.0)
-    (operand_meant going c.requires.passed inside 2 _ reads.1.1) in
-    going_next going c.requires.passed inside enters c.keep.ensures
+    let entry = c.entry-entry.ensures in
+    let inside : c.loop-i.i < count c.args.sheet.bytes.now = omega (arith, c.loop-i-test.true, c.count-count.ensures.value) in
+    let worked = entry_worked c.loop-i.invariant c.args.sheet.passed inside entry.sheet entry.index c.operands-v.ensures
+    c.work.new.t c.work.new.s (Ok c.in_ok-made.made) c.in_ok-made.ensures in
+    going_next c.loop-i.invariant c.args.sheet.passed inside worked c.keep.ensures
 
 pub returns : goal.returns
 returns c =
-    going_done c.loop-i.invariant c.requires.passed (omega (arith, c.loop-i-test.false, c.count-n.ensures))
-    c.begin-at.ensures.1.0 c.begin-at.ensures.1.1 _ _ c.count-n.ensures c.value_at-last.ensures
+    let pair = rw c.count-count.ensures.value at c.pair_at.ensures in
+    let ends : c.loop-i.i ≡ count c.args.sheet.bytes.now =
+    omega (arith, c.loop-i-test.false, c.loop-i.auto.i-end, c.count-count.ensures.value) in
+    going_done c.loop-i.invariant c.args.sheet.passed ends _ pair
