@@ -1,4 +1,4 @@
-// Lists every sheet of data/: its file's name, then what the program prints for it.
+//! Lists every sheet of data/: its file's name, then what the program prints for it.
 #![tactic(auto)]
 
 use listing::input::read_full;
@@ -7,57 +7,59 @@ use std::fs::File;
 use std::io;
 use std::io::Write;
 
+// Sheet A and the worked cases.
+const CASES: &[&str] = &[
+    "sheet_a.sheet",
+    "case_03.sheet",
+    "case_04.sheet",
+    "case_05.sheet",
+    "case_06.sheet",
+    "case_07_signed_1_0.sheet",
+    "case_07_signed_0_1.sheet",
+    "case_07_unsigned_1_0.sheet",
+    "case_07_unsigned_0_1.sheet",
+    "case_08_constant_7.sheet",
+    "case_08_constant_8.sheet",
+    "case_09.sheet",
+    "case_10_width_4.sheet",
+    "case_10_width_5.sheet",
+    "case_11_by_3.sheet",
+    "case_11_by_4.sheet",
+    "case_12_128_bits.sheet",
+    "case_12_129_bits.sheet",
+];
+
+// Rules for a mesh of ward controllers.
+const MESH_RULES: &[&str] = &[
+    "mesh_two_lead.sheet",
+    "mesh_nobody_leads.sheet",
+    "mesh_nobody_leads_addressed.sheet",
+    "mesh_bonus_wraps.sheet",
+    "mesh_bonus_wide.sheet",
+    "mesh_delay.sheet",
+    "mesh_health.sheet",
+    "mesh_weighted.sheet",
+];
+
 // A file that can't be opened is listed as no bytes at all: answer 1.
 fn list(rt: &HostRuntime, name: &str) -> io::Result<()> {
     let mut input = [0u8; 2563];
-    let mut out = [0u8; 16384];
     let n = match File::open(rt, name) {
         Ok(mut file) => read_full(&mut file, &mut input)?,
         Err(_) => 0,
     };
-    let end = program(&input[0..n], &mut out);
+    let page = program(&input[..n]);
     rt.stdout().write_all(name.as_bytes())?;
     rt.stdout().write_all(b"\n")?;
-    rt.stdout().write_all(&out[0..end])
-}
-
-// Sheet A and the cases of document 01.
-fn list_cases(rt: &HostRuntime) -> io::Result<()> {
-    list(rt, "sheet_a.sheet")?;
-    list(rt, "case_03.sheet")?;
-    list(rt, "case_04.sheet")?;
-    list(rt, "case_05.sheet")?;
-    list(rt, "case_06.sheet")?;
-    list(rt, "case_07_signed_1_0.sheet")?;
-    list(rt, "case_07_signed_0_1.sheet")?;
-    list(rt, "case_07_unsigned_1_0.sheet")?;
-    list(rt, "case_07_unsigned_0_1.sheet")?;
-    list(rt, "case_08_constant_7.sheet")?;
-    list(rt, "case_08_constant_8.sheet")?;
-    list(rt, "case_09.sheet")?;
-    list(rt, "case_10_width_4.sheet")?;
-    list(rt, "case_10_width_5.sheet")?;
-    list(rt, "case_11_by_3.sheet")?;
-    list(rt, "case_11_by_4.sheet")?;
-    list(rt, "case_12_128_bits.sheet")?;
-    list(rt, "case_12_129_bits.sheet")?;
-    Ok(())
-}
-
-// Rules for a mesh of ward controllers.
-fn list_mesh_rules(rt: &HostRuntime) -> io::Result<()> {
-    list(rt, "mesh_two_lead.sheet")?;
-    list(rt, "mesh_nobody_leads.sheet")?;
-    list(rt, "mesh_nobody_leads_addressed.sheet")?;
-    list(rt, "mesh_bonus_wraps.sheet")?;
-    list(rt, "mesh_bonus_wide.sheet")?;
-    list(rt, "mesh_delay.sheet")?;
-    list(rt, "mesh_health.sheet")?;
-    list(rt, "mesh_weighted.sheet")?;
-    Ok(())
+    rt.stdout().write_all(page.as_bytes())
 }
 
 fn main(rt: HostRuntime) -> io::Result<()> {
-    list_cases(&rt)?;
-    list_mesh_rules(&rt)
+    for name in CASES {
+        list(&rt, name)?;
+    }
+    for name in MESH_RULES {
+        list(&rt, name)?;
+    }
+    Ok(())
 }

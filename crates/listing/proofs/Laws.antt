@@ -1,5 +1,4 @@
 -- Theorems about the definitions, by subject.
-pub mod Written
 pub mod Decimal
 pub mod Value
 pub mod Entry

@@ -1,4 +1,4 @@
--- What stands in the buffer.
-pub mod Written
+-- The pieces of a listing.
+pub mod Pieces
 -- An answer of solve beside the table that it left.
 pub mod Answered

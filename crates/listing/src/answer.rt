@@ -1,42 +1,43 @@
-// The listing: the answer line alone on a refusal; on sat also the variables' values.
-ghost use Rattle.std.specs.Prelude.{◌≡◌, ◌+◌, ◌≤◌, ◌<◌, length, take};
+//! The listing: the answer line alone on a refusal; on sat also the variables' values.
+ghost use Rattle.std.specs.Prelude.{◌≡◌, ◌≤◌, length};
 ghost use Rattle.meaning.specs.Sheet.{entries};
 ghost use Rattle.meaning.specs.Check.{check};
 ghost use Rattle.meaning.specs.Value.{assignment};
 ghost use Rattle.meaning.specs.Program.{listed};
 
 use crate::lines::put_entries;
-use crate::text::{put_line, put_verdict};
+use crate::text::Page;
+use crate::value::Values;
+use prover::answer::Numbers;
 
-// a says the witness of must, one byte a level. The buffer is long enough for 256 lines of 40 bytes and the rest.
-#[tactic(auto, using(sheet::proofs::Laws::Check::checked_laid, crate::proofs::Laws::Listing::listed_refused))]
-pub fn listing(
-    s: &[u8],
-    number: u32,
-    verdict: u32,
-    must: u32,
-    may: u32,
-    used: u32,
-    a: &[u8],
-    out: &mut [u8],
-) -> usize
-    requires passed { number ≡ 0 → check s.now ≡ 0 }
-    requires room { 16384 ≤ length out.old }
-    ensures { (take result out.new ≡
-        listed number verdict must may used (entries s.now) (assignment a.now)) ×
-        (result ≤ 16384) }
+/// What the program prints: at most five lines of 82 bytes in all, then 256 lines of 34.
+pub type Listing = Page<8786>;
+
+/// The listing of these numbers. a says the witness of must, one byte a level.
+// Numbers and no Result, since the clause `text` tells what is listed for any numbers.
+#[tactic(auto, using(sheet::proofs::Laws::Check::checked_laid, crate::proofs::Laws::Listing::listed_refused, crate::proofs::Laws::Listing::listed_judged, crate::proofs::Laws::Listing::listed_sat))]
+pub fn listing(s: &[u8], n: Numbers, a: &[u8]) -> Listing
+    requires passed { n.number ≡ 0 → check s.now ≡ 0 }
+    ensures text { result ≡
+        listed n.number n.verdict n.must n.may n.used (entries s.now) (assignment a.now) }
+    ensures fits { length result ≤ 8786 }
 {
-    let answered = put_line(out, 0, b"answer ", number);
-    if number != 0 {
-        return answered;
+    let mut page = Listing::new();
+    page.put_line(b"answer ", n.number);
+    if n.number != 0 {
+        return page;
     }
-    let judged = put_verdict(out, answered, verdict);
-    let held = put_line(out, judged, b"must ", must);
-    let allowed = put_line(out, held, b"may ", may);
-    let end = put_line(out, allowed, b"slots ", used);
-    let sat = verdict == 1;
-    if !sat {
-        return end;
+    page.put_verdict(n.verdict);
+    page.put_line(b"must ", n.must);
+    page.put_line(b"may ", n.may);
+    page.put_line(b"slots ", n.used);
+    let sat = n.verdict == 1;
+    if sat {
+        let values = Values {
+            sheet: s,
+            assignment: a,
+        };
+        put_entries(values, &mut page);
     }
-    put_entries(s, a, out, end)
+    page
 }

@@ -1,4 +1,4 @@
-// What the program prints, written into a lent buffer: the listing of document 01; and how it reads its input.
+//! What the program prints: the listing of an answer, on a page; and how it reads its input.
 #![tactic(auto)]
 
 pub mod answer;

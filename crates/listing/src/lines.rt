@@ -1,46 +1,51 @@
-// The variables' values: one line a variable entry.
-ghost use Rattle.std.specs.Prelude.{◌≡◌, ◌+◌, ◌*◌, ◌≤◌, ◌<◌, length};
-ghost use Rattle.meaning.specs.Sheet.{count};
-ghost use Rattle.sheet.specs.Laid.{Laid};
-ghost use Rattle.listing.specs.Written.{Written, entry_text, value_lines};
+//! The variables' values: one line a variable entry.
+ghost use Rattle.std.specs.Prelude.{◌≡◌, ◌+◌, ◌≤◌, ◌<◌, ◌++◌, length};
+ghost use Rattle.meaning.specs.Kind.{a_variable};
+ghost use Rattle.meaning.specs.Sheet.{count, rule_at};
+ghost use Rattle.meaning.specs.Check.{suits};
+ghost use Rattle.listing.specs.Pieces.{entry_text, value_lines};
 
-use crate::text::{put, put_decimal, put_line};
-use crate::value::value_of;
-use sheet::kind::VARIABLE;
+use crate::text::Page;
+use crate::value::Values;
+use sheet::kind::Sort;
 use sheet::read::{count, kind};
 
-// Entry i's line, if it is a variable.
-fn put_entry(s: &[u8], a: &[u8], out: &mut [u8], at: usize, i: usize) -> usize
-    requires laid { Laid s.now × (i < count s.now) }
-    requires room { at + 40 ≤ length out.old }
-    ensures { Written out.old at out.new result (entry_text s.now a.now i) ×
-        (result ≤ at + 40) }
+// Is entry i a variable?
+fn is_variable(values: Values, i: usize) -> bool
+    requires { i < count values.sheet.now }
+    ensures { result ≡ suits a_variable (rule_at values.entry.sheet.now i).sort }
 {
-    let kind = kind(s, i);
-    if kind.sort != VARIABLE {
-        return at;
+    match kind(values.sheet, i) {
+        Some(kind) => kind.rule().sort == Sort::Variable,
+        None => false,
     }
-    let name = i as u32;
-    let value = value_of(s, a, i);
-    let number = put(out, at, b"entry ");
-    let end = put_decimal(out, number, name);
-    put_line(out, end, b" value ", value)
 }
 
-// A line for each variable entry.
-#[tactic(auto, using(crate::proofs::Laws::Entry::going_end))]
-pub fn put_entries(s: &[u8], a: &[u8], out: &mut [u8], at: usize) -> usize
-    requires laid { Laid s.now }
-    requires room { at + 10240 ≤ length out.old }
-    ensures { Written out.old at out.new result (value_lines s.now a.now) ×
-        (result ≤ at + 10240) }
+// Entry i's line, if it is a variable.
+#[tactic(auto, using(crate::proofs::Laws::Entry::entry_none, crate::proofs::Laws::Entry::entry_some))]
+fn put_entry<const N: usize>(values: Values, page: &mut Page<N>, i: usize)
+    requires inside { i < count values.sheet.now }
+    requires room { length page.old + 34 ≤ N }
+    ensures text { page.new ≡ page.old ++ entry_text values.entry.sheet.now values.entry.assignment.now i }
+    ensures short { length page.new ≤ length page.old + 34 }
 {
-    let n = count(s);
-    let mut end = at;
-    let mut i = 0;
-    while i < n {
-        end = put_entry(s, a, out, end, i);
-        i += 1;
+    if is_variable(values, i) {
+        let name = i as u32;
+        let value = values.value_of(i);
+        page.put(b"entry ");
+        page.put_decimal(name);
+        page.put_line(b" value ", value);
     }
-    end
+}
+
+/// A line for each variable entry.
+#[tactic(auto, using(crate::proofs::Laws::Entry::going_begin, crate::proofs::Laws::Entry::going_more, crate::proofs::Laws::Entry::going_end))]
+pub fn put_entries<const N: usize>(values: Values, page: &mut Page<N>)
+    requires room { length page.old + 8704 ≤ N }
+    ensures text { page.new ≡ page.old ++ value_lines values.entry.sheet.now values.entry.assignment.now }
+    ensures short { length page.new ≤ length page.old + 8704 }
+{
+    for i in 0..count(values.sheet) {
+        put_entry(values, page, i);
+    }
 }

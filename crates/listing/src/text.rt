@@ -1,67 +1,86 @@
-// Pieces of text, each appended to what stands in the buffer up to `at`. The answer is where the piece ends.
-ghost use Rattle.std.specs.Prelude.{◌≡◌, ◌+◌, ◌%◌, ◌≤◌, ◌<◌, length};
-ghost use Rattle.listing.specs.Written.{Written, digits, number_line, verdict_line};
+//! The page that a listing is written on. Each piece of text is appended to what stands there.
+ghost use Rattle.std.specs.Prelude.{◌≡◌, ◌+◌, ◌≤◌, [], ◌++◌, length};
+ghost use Rattle.listing.specs.Pieces.{digits, number_line, verdict_line};
 
-// Some bytes.
-pub fn put(out: &mut [u8], at: usize, text: &[u8]) -> usize
-    requires { at + length text.now ≤ length out.old }
-    ensures { Written out.old at out.new result text.now }
-{
-    let mut i = 0;
-    while i < text.len() {
-        out[at + i] = text[i];
-        i += 1;
-    }
-    at + i
+use arrayvec::ArrayVec;
+use itoa::Buffer;
+use std::marker::Model;
+
+/// A page with room for N bytes.
+#[derive(Drop)]
+pub struct Page<const N: usize> {
+    bytes: ArrayVec<u8, N>,
 }
 
-// The last digit of a number.
-fn last_digit(n: u32) -> u8
-    ensures { result ≡ 48 + n % 10 }
-{
-    (48 + n % 10) as u8
+impl<const N: usize> Model for Page<N> {
+    ghost use Rattle.std.specs.Prelude.{ℕ, List};
+
+    ghost Value = { List ℕ };
+
+    ghost view = { λ p. p.bytes.items };
 }
 
-// A number in decimal, with no zeros in front: its digits from the last one on, then copied.
-pub fn put_decimal(out: &mut [u8], at: usize, n: u32) -> usize
-    requires { at + 10 ≤ length out.old }
-    ensures { Written out.old at out.new result (digits n) × (result ≤ at + 10) }
-{
-    let mut digits = [0u8; 10];
-    let mut left = 10;
-    let mut rest = n;
-    while 9 < rest {
-        left -= 1;
-        digits[left] = last_digit(rest);
-        rest = rest / 10;
+impl<const N: usize> Page<N> {
+    /// An empty page.
+    pub fn new() -> Self
+        ensures { result ≡ [] }
+    {
+        Page {
+            bytes: ArrayVec::new(),
+        }
     }
-    left -= 1;
-    digits[left] = last_digit(rest);
-    put(out, at, &digits[left..])
-}
 
-// A word with its space, a number, the end of the line.
-pub fn put_line(out: &mut [u8], at: usize, word: &[u8], n: u32) -> usize
-    requires { at + length word.now + 11 ≤ length out.old }
-    ensures { Written out.old at out.new result (number_line word.now n) ×
-        (result ≤ at + length word.now + 11) }
-{
-    let number = put(out, at, word);
-    let end = put_decimal(out, number, n);
-    put(out, end, b"\n")
-}
+    /// What stands on the page.
+    pub fn as_bytes(&self) -> &[u8]
+        ensures { result.now ≡ self.now }
+    {
+        self.bytes.as_slice()
+    }
 
-// The verdict's line.
-#[tactic(auto, using(crate::proofs::Laws::Written::written_as, crate::proofs::Laws::Listing::verdict_sat, crate::proofs::Laws::Listing::verdict_unsat, crate::proofs::Laws::Listing::verdict_unknown))]
-pub fn put_verdict(out: &mut [u8], at: usize, verdict: u32) -> usize
-    requires { at + 16 ≤ length out.old }
-    ensures { Written out.old at out.new result (verdict_line verdict) × (result ≤ at + 16) }
-{
-    if verdict == 1 {
-        return put(out, at, b"verdict sat\n");
+    /// Some bytes.
+    pub fn put(&mut self, text: &[u8])
+        requires room { length self.old + length text.now ≤ N }
+        ensures { self.new ≡ self.old ++ text.now }
+    {
+        self.bytes.try_extend_from_slice(text).unwrap()
     }
-    if verdict == 2 {
-        return put(out, at, b"verdict unsat\n");
+
+    /// A number in decimal, with no zeros in front.
+    #[tactic(auto, using(crate::proofs::Laws::Decimal::decimal_digits))]
+    pub fn put_decimal(&mut self, n: u32)
+        requires room { length self.old + 10 ≤ N }
+        ensures text { self.new ≡ self.old ++ digits n }
+        ensures short { length self.new ≤ length self.old + 10 }
+    {
+        let mut buffer = Buffer::new();
+        let digits = buffer.format(n).as_bytes();
+        self.put(digits)
     }
-    put(out, at, b"verdict unknown\n")
+
+    /// A word with its space, a number, the end of the line.
+    #[tactic(auto, unfolding(crate::specs::Pieces::number_line))]
+    pub fn put_line(&mut self, word: &[u8], n: u32)
+        requires room { length self.old + length word.now + 11 ≤ N }
+        ensures text { self.new ≡ self.old ++ number_line word.now n }
+        ensures short { length self.new ≤ length self.old + length word.now + 11 }
+    {
+        self.put(word);
+        self.put_decimal(n);
+        self.put(b"\n")
+    }
+
+    /// The verdict's line: 1 is sat, 2 unsat, any other number unknown.
+    // A number and no Verdict, since the clause `text` tells each number's line.
+    #[tactic(auto, using(crate::proofs::Laws::Listing::verdict_sat, crate::proofs::Laws::Listing::verdict_unsat, crate::proofs::Laws::Listing::verdict_unknown))]
+    pub fn put_verdict(&mut self, verdict: u32)
+        requires room { length self.old + 16 ≤ N }
+        ensures text { self.new ≡ self.old ++ verdict_line verdict }
+        ensures short { length self.new ≤ length self.old + 16 }
+    {
+        match verdict {
+            1 => self.put(b"verdict sat\n"),
+            2 => self.put(b"verdict unsat\n"),
+            _ => self.put(b"verdict unknown\n"),
+        }
+    }
 }

@@ -1,4 +1,4 @@
-// Reads a sheet from standard input, 2,563 bytes at most, and prints its listing.
+//! Reads a sheet from standard input, 2,563 bytes at most, and prints its listing.
 #![tactic(auto)]
 
 use listing::input::read_full;
@@ -8,8 +8,6 @@ use std::io::Write;
 
 fn main(rt: HostRuntime) -> io::Result<()> {
     let mut input = [0u8; 2563];
-    let mut out = [0u8; 16384];
     let n = read_full(&mut rt.stdin(), &mut input)?;
-    let end = program(&input[0..n], &mut out);
-    rt.stdout().write_all(&out[0..end])
+    rt.stdout().write_all(program(&input[..n]).as_bytes())
 }

@@ -1,16 +1,14 @@
 -- The listing from its pieces, one law a way through the code; and the verdict's line.
 use Prim.Native.Nat.{ℕ}
-use mathlib.Core.Path.{◌≡◌, refl, sym, ◌∙◌}
+use mathlib.Core.Path.{◌≡◌, refl, sym, ap, ◌∙◌}
 use mathlib.Core.Bool.{Bool, true, false, cond}
-use mathlib.Core.List.{List, [], ◌∷◌, ◌++◌, append_assoc, append-nil}
+use mathlib.Core.List.{List, [], ◌++◌, append_assoc, append-nil}
 use lib.Dec.{eqb}
-use lib.ListN.{take}
 use borrow.Author.Tests.{eq-eqb, ne_eqb}
 use Rattle.meaning.specs.Sheet.{entries}
 use Rattle.meaning.specs.Value.{assignment}
 use Rattle.meaning.specs.Program.{text, listed}
-use Rattle.listing.specs.Written.{Written, digits, number_line, verdict_line, value_lines}
-use Rattle.listing.proofs.Laws.Written.{written_then}
+use Rattle.listing.specs.Pieces.{digits, number_line, verdict_line, value_lines}
 
 -- ---- the verdict's line
 
@@ -29,42 +27,19 @@ module _ (v : ℕ) where
 
 -- ---- the listing
 
--- a number's line, from its three parts
-pub line_written : {out one two three : List ℕ} {at number end last : ℕ} (word : List ℕ) (n : ℕ) →
-    Written out at one number word → Written one number two end (digits n) → Written two end three last (10 ∷ []) →
-    Written out at three last (number_line word n)
-unfolding number_line
-line_written word n first second third = written_then first (written_then second third)
-
--- what a sheet that is not refused lists before the values
-abbrev pub judged : ℕ → ℕ → ℕ → ℕ → ℕ → List ℕ
-judged number verdict must may used =
-    number_line (text "answer ") number
-    ++ (verdict_line verdict
-    ++ (number_line (text "must ") must ++ (number_line (text "may ") may ++ number_line (text "slots ") used)))
-
-pub judged_written : {out one two three four five : List ℕ} {at answered said held allowed end : ℕ}
-    (number verdict must may used : ℕ) → Written out at one answered (number_line (text "answer ") number) →
-    Written one answered two said (verdict_line verdict) → Written two said three held (number_line (text "must ") must) →
-    Written three held four allowed (number_line (text "may ") may) →
-    Written four allowed five end (number_line (text "slots ") used) →
-    Written out at five end (judged number verdict must may used)
-judged_written number verdict must may used answer word low high slots =
-    written_then answer (written_then word (written_then low (written_then high slots)))
-
-regroup : (a v m y u e : List ℕ) → (a ++ (v ++ (m ++ (y ++ u)))) ++ e ≡ a ++ (v ++ m ++ y ++ u ++ e)
+regroup : (a v m y u e : List ℕ) → (((((a ++ v) ++ m) ++ y) ++ u) ++ e) ≡ a ++ (v ++ m ++ y ++ u ++ e)
 regroup a v m y u e = simp append_assoc
 
 module _ (s a : List ℕ) (number verdict must may used : ℕ) where
-  pub listed_refused : {out now : List ℕ} {r : ℕ} → (number ≡ 0 → ⊥) →
-      Written out 0 now r (number_line (text "answer ") number) →
-      take r now ≡ listed number verdict must may used (entries s) (assignment a)
+  pub listed_refused : {page : List ℕ} → (number ≡ 0 → ⊥) → page ≡ number_line (text "answer ") number →
+      page ≡ listed number verdict must may used (entries s) (assignment a)
   unfolding listed number_line digits
   listed_refused refused answer =
-      rw (ne_eqb number 0 refused) (answer.stands ∙ sym (append-nil (number_line (text "answer ") number)))
+      rw (ne_eqb number 0 refused) (answer ∙ sym (append-nil (number_line (text "answer ") number)))
 
   shape : (sat : Bool) → number ≡ 0 → eqb verdict 1 ≡ sat →
-      judged number verdict must may used ++ cond sat (value_lines s a) []
+      ((((number_line (text "answer ") number ++ verdict_line verdict) ++ number_line (text "must ") must)
+      ++ number_line (text "may ") may) ++ number_line (text "slots ") used) ++ cond sat (value_lines s a) []
       ≡ listed number verdict must may used (entries s) (assignment a)
   unfolding listed number_line verdict_line digits value_lines
   shape sat good is =
@@ -72,14 +47,18 @@ module _ (s a : List ℕ) (number verdict must may used : ℕ) where
       (regroup (number_line (text "answer ") number) (verdict_line verdict) (number_line (text "must ") must)
       (number_line (text "may ") may) (number_line (text "slots ") used) (cond (eqb verdict 1) (value_lines s a) []))
 
-  pub listed_judged : {out now : List ℕ} {r : ℕ} → number ≡ 0 → (verdict ≡ 1 → ⊥) →
-      Written out 0 now r (judged number verdict must may used) →
-      take r now ≡ listed number verdict must may used (entries s) (assignment a)
-  listed_judged good other lines =
-      lines.stands ∙ sym (append-nil (judged number verdict must may used)) ∙ shape false good (ne_eqb verdict 1 other)
+  module _ {none one two three four five : List ℕ} (good : number ≡ 0)
+      (empty : none ≡ []) (answered : one ≡ none ++ number_line (text "answer ") number)
+      (judged : two ≡ one ++ verdict_line verdict) (held : three ≡ two ++ number_line (text "must ") must)
+      (allowed : four ≡ three ++ number_line (text "may ") may) (counted : five ≡ four ++ number_line (text "slots ") used) where
+    lines : five ≡ (((number_line (text "answer ") number ++ verdict_line verdict) ++ number_line (text "must ") must)
+        ++ number_line (text "may ") may) ++ number_line (text "slots ") used
+    lines = rw (counted, allowed, held, judged, answered, empty) refl
 
-  pub listed_sat : {out middle now : List ℕ} {between r : ℕ} → number ≡ 0 → verdict ≡ 1 →
-      Written out 0 middle between (judged number verdict must may used) →
-      Written middle between now r (value_lines s a) →
-      take r now ≡ listed number verdict must may used (entries s) (assignment a)
-  listed_sat good sat lines values = (written_then lines values).stands ∙ shape true good (eq-eqb verdict 1 sat)
+    pub listed_judged : (verdict ≡ 1 → ⊥) → five ≡ listed number verdict must may used (entries s) (assignment a)
+    listed_judged other = sym (append-nil five) ∙ ap (λ (l : List ℕ). l ++ []) lines ∙ shape false good (ne_eqb verdict 1 other)
+
+    pub listed_sat : {page : List ℕ} → verdict ≡ 1 → page ≡ five ++ value_lines s a →
+        page ≡ listed number verdict must may used (entries s) (assignment a)
+    listed_sat sat values =
+        values ∙ ap (λ (l : List ℕ). l ++ value_lines s a) lines ∙ shape true good (eq-eqb verdict 1 sat)

@@ -1,12 +1,11 @@
 -- The value of a variable entry, summed from its top bit down.
 use Prim.Native.Nat.{ℕ, suc, ◌+◌, ◌-◌, ◌*◌, ◌≤◌, ◌<◌}
-use mathlib.Core.Path.{◌≡◌, refl, ap, ◌∙◌}
+use mathlib.Core.Path.{◌≡◌, ap, ◌∙◌}
 use mathlib.Core.Bool.{Bool}
 use mathlib.Core.List.{List}
-use lib.ListN.{length, get_or, get_or-eq_default}
+use lib.ListN.{length}
 use lib.Pow.{pow_mono}
 use native.Mathlib.Omega.{arith}
-use borrow.Author.Tests.{eq-eqb, ne_eqb}
 use Rattle.meaning.specs.Number.{digit, number, each}
 use Rattle.meaning.specs.Kind.{Sort}
 use Rattle.meaning.specs.Sheet.{count, rule_at, width_at, entry_at, entries}
@@ -16,18 +15,6 @@ use Rattle.meaning.proofs.Laws.Number.{number_lt, each_length}
 use Rattle.sheet.specs.Laid.{Laid}
 use Rattle.sheet.proofs.Laws.Sheet.{entry_at_lem}
 
--- ---- the bit of a level
-
-module _ (a : List ℕ) (l : ℕ) where
-  pub bit_one : get_or a l 0 ≡ 1 → 1 ≡ digit (assignment a l)
-  bit_one one = rw (eq-eqb (get_or a l 0) 1 one) refl
-
-  pub bit_none : (get_or a l 0 ≡ 1 → ⊥) → 0 ≡ digit (assignment a l)
-  bit_none other = rw (ne_eqb (get_or a l 0) 1 other) refl
-
-  pub bit_past : length a ≤ l → 0 ≡ digit (assignment a l)
-  bit_past past = rw (get_or-eq_default a 0 {n = l} past) refl
-
 -- ---- the sum: bits b to w of entry i
 
 unfoldable pub bit_of : List ℕ → List ℕ → ℕ → ℕ → Bool
@@ -36,11 +23,6 @@ bit_of s a i b = assignment a (level (entries s) i b)
 pub record Summed (s a : List ℕ) (i w b v : ℕ) : Type 0 where
   pub is : v ≡ number (each (bit_of s a i) b (w - b))
   pub below : b ≤ w
-
-pub summed_begin : (s a : List ℕ) (i w : ℕ) → Summed s a i w w 0
-summed_begin s a i w =
-    let none : w - w ≡ 0 = omega arith in
-    record { is = rw none refl; below = omega arith }
 
 module _ {s a : List ℕ} {i w b v : ℕ} (summed : Summed s a i w b v) where
   pub summed_more : (d : ℕ) → 0 < b → d ≡ digit (assignment a (level (entries s) i (b - 1))) →

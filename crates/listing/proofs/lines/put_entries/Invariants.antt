@@ -1,13 +1,10 @@
--- `put_entries` appends every variable entry's line. The loop's invariant: what stands there, with the lines from
--- entry i on, is the whole.
-use Prim.Native.Nat.{◌+◌, ◌-◌, ◌*◌, ◌≤◌}
-use mathlib.Core.Path.{◌≡◌}
-use lib.ListN.{length}
+-- The loop's invariant: what stands there, with the lines from entry i on, is the whole; each line has at most 34 bytes.
+use Rattle.std.proofs.Common.{◌+◌, ◌*◌, ◌≤◌, length}
 use Rattle.listing.proofs.Laws.Entry.{Going}
 use Rattle.listing.proofs.lines.put_entries.Given as goal
 
 abbrev pub invariant-loop-i : goal.invariant-loop-i
-invariant-loop-i l = (l.i ≤ l.n) × ((l.end ≤ l.at + 40 * l.i) × ((length l.out ≡ length l.initial.out) × Going l.s l.a l.n l.initial.out l.at l.out l.end l.i))
-
-abbrev pub decreases-loop-i : goal.decreases-loop-i
-decreases-loop-i l = l.n - l.i
+invariant-loop-i g l = record {
+  going : Going l.values.sheet.now l.values.assignment.now l.i-end l.initial.page l.page l.i;
+  short : length l.page ≤ length l.initial.page + 34 * l.i;
+}

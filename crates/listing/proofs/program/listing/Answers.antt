@@ -3,4 +3,4 @@ use Rattle.listing.proofs.Laws.Answered.{meets_answered}
 use Rattle.listing.proofs.program.listing.Goals as goal
 
 pub list_answer-requires : goal.list_answer-requires
-list_answer-requires c = meets_answered _ _ _ _ _ _ c.solve_unnamed-a.ensures
+list_answer-requires c = meets_answered _ _ _ _ _ _ c.solved-answer.ensures

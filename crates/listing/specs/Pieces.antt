@@ -1,14 +1,8 @@
--- What stands in the buffer after a piece was appended, and the pieces.
---
---   Written before at after end text   up to `end` stands what stood up to `at`, then the text
-use Rattle.std.specs.Prelude.{ℕ, ◌+◌, ◌≡◌, List, ◌++◌, length, take}
+-- The pieces of a listing.
+use Rattle.std.specs.Prelude.{ℕ, List, ◌++◌}
 use Rattle.meaning.specs.Sheet.{rule_at, entries}
 use Rattle.meaning.specs.Value.{assignment}
 use Rattle.meaning.specs.Program.{text, newline, decimal, verdict_word, entry_line, entry_lines}
-
-pub record Written (before : List ℕ) (at : ℕ) (after : List ℕ) (end : ℕ) (piece : List ℕ) : Type 0 where
-  pub stands : take end after ≡ take at before ++ piece
-  pub far : end ≡ at + length piece
 
 unfoldable pub digits : ℕ → List ℕ
 digits n = decimal n
