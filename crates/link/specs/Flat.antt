@@ -6,7 +6,8 @@ use Rattle.std.specs.Prelude.{ℕ, ◌≡◌, List, length}
 use Rattle.meaning.specs.Solve as Solve
 use Rattle.meaning.specs.Value as Value
 use Rattle.meaning.specs.Witness.{witness}
-use Rattle.prover.specs.Answer.{Numbers, numbers_of}
+use Rattle.prover.specs.Answer.{numbers_of}
+use Rattle.prover.specs.declared.answer.Numbers.{Numbers}
 use Rattle.link.specs.declared.Solved.{Solved}
 use Rattle.link.specs.declared.Valued.{Valued}
 

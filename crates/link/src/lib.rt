@@ -1,21 +1,19 @@
-// What is exported to Rust and C (by `link_c`): the enums of solve, value and witness, flattened into numbers.
+//! What is exported to Rust and C (by `link_c`): the answers of solve, value and witness, flattened into numbers.
 #![tactic(auto)]
 
 ghost use Rattle.std.specs.Prelude.{◌≡◌, length};
 ghost use Rattle.meaning.specs.Solve as Solve;
 ghost use Rattle.meaning.specs.Value as Value;
-ghost use Rattle.prover.specs.Answer.{answer_of};
-ghost use Rattle.lent.specs.Value.{valued};
-ghost use Rattle.lent.specs.Witness.{witnessed};
-ghost use Rattle.link.specs.Flat.{numbers_in, value_in, Solves, Wrote};
+ghost use Rattle.link.specs.Flat.{value_in, Solves, Wrote};
 
+use diagram::number::Diagram;
 use diagram::table::Cell;
-use lent::witness::Witnessed;
 use lent::{value, witness};
-use prover::answer::Answer;
-use prover::solve;
+use prover::answer::{Numbers, Refusal};
+use prover::{answer, solve};
 
-// Document 01's number, then the verdict (1 sat, 2 unsat, 3 unknown), must, may and the slots used; zeros on a refusal.
+/// The number, 0 or the refusal's, then the verdict (1 sat, 2 unsat, 3 unknown), must, may and the slots used; zeros on a refusal.
+// Numbers and no Result: the C interface.
 #[repr(C)]
 #[derive(Clone, Copy)]
 pub struct Solved {
@@ -26,7 +24,26 @@ pub struct Solved {
     pub used: u32,
 }
 
-// Document 01's number, then the bit and the nodes passed; zeros on a refusal.
+impl From<Result<answer::Solved, Refusal>> for Solved {
+    ghost use Rattle.prover.specs.Answer.{answer_of};
+    ghost use Rattle.link.specs.Flat.{numbers_in};
+
+    ghost from_gives = { λ answer flat. numbers_in flat ≡ answer_of answer };
+
+    fn from(answer: Result<answer::Solved, Refusal>) -> Solved {
+        let n = Numbers::from(answer);
+        Solved {
+            number: n.number,
+            verdict: n.verdict,
+            must: n.must,
+            may: n.may,
+            used: n.used,
+        }
+    }
+}
+
+/// The number, 0 or the refusal's, then the bit and the nodes passed; zeros on a refusal.
+// Numbers and no Result, as above.
 #[repr(C)]
 #[derive(Clone, Copy)]
 pub struct Valued {
@@ -35,91 +52,57 @@ pub struct Valued {
     pub passed: u32,
 }
 
-fn only_number(number: u32) -> Solved
-    ensures { result ≡ record { number = number; verdict = 0; must = 0; may = 0; used = 0 } }
-{
-    Solved {
-        number,
-        verdict: 0,
-        must: 0,
-        may: 0,
-        used: 0,
+impl From<Result<value::Valued, lent::refusal::Refusal>> for Valued {
+    ghost use Rattle.lent.specs.Value.{valued};
+    ghost use Rattle.link.specs.Flat.{value_in};
+
+    ghost from_gives = { λ answer flat. value_in flat ≡ valued answer };
+
+    fn from(answer: Result<value::Valued, lent::refusal::Refusal>) -> Valued {
+        match answer {
+            Ok(valued) => Valued {
+                number: 0,
+                bit: valued.bit.into(),
+                passed: valued.passed,
+            },
+            Err(refusal) => Valued {
+                number: refusal.into(),
+                bit: 0,
+                passed: 0,
+            },
+        }
     }
 }
 
-fn flat_answer(a: Answer) -> Solved
-    ensures { numbers_in result ≡ answer_of a }
-{
-    match a {
-        Answer::Refused(number) => only_number(number),
-        Answer::NoRoom => only_number(11),
-        Answer::Solved {
-            verdict,
-            must,
-            may,
-            used,
-        } => Solved {
-            number: 0,
-            verdict,
-            must,
-            may,
-            used,
-        },
-    }
-}
-
-fn flat_value(v: value::Valued) -> Valued
-    ensures { value_in result ≡ valued v }
-{
-    match v {
-        value::Valued::Refused(number) => Valued {
-            number,
-            bit: 0,
-            passed: 0,
-        },
-        value::Valued::Bit { bit, passed } => Valued {
-            number: 0,
-            bit,
-            passed,
-        },
-    }
-}
-
-fn flat_witness(w: Witnessed) -> u32
-    ensures { result ≡ witnessed w }
-{
-    match w {
-        Witnessed::Refused(number) => number,
-        Witnessed::Written => 0,
-    }
-}
-
-// Solve a sheet at a limit.
+/// Solves a sheet at a limit.
 pub fn rule_solve(sheet: &[u8], limit: u32, table: &mut [Cell], work: &mut [u32]) -> Solved
     ensures { Solves (Solve.solve sheet.now limit (length table.old) (length work.old)) result
         table.old work.old table.new work.new }
 {
-    flat_answer(solve::solve(sheet, limit, table, work))
+    solve::solve(sheet, limit, table, work).into()
 }
 
-// Solve a sheet without a named limit.
+/// Solves a sheet without a named limit.
 pub fn rule_solve_unnamed(sheet: &[u8], table: &mut [Cell], work: &mut [u32]) -> Solved
     ensures { Solves (Solve.solve_unnamed sheet.now (length table.old) (length work.old)) result
         table.old work.old table.new work.new }
 {
-    flat_answer(solve::solve_unnamed(sheet, table, work))
+    solve::solve_unnamed(sheet, table, work).into()
 }
 
-// The value of a diagram under an assignment, one byte a level.
+/// The value of a diagram under an assignment, one byte a level.
 pub fn rule_value(table: &[Cell], used: u32, diagram: u32, assignment: &[u8]) -> Valued
     ensures { value_in result ≡ Value.value table.now used diagram assignment.now }
 {
-    flat_value(value::value(table, used, diagram, assignment))
+    value::value(table, used, Diagram::new(diagram), assignment).into()
 }
 
-// The first assignment that a diagram accepts, one byte a level.
+/// The first assignment that a diagram accepts, one byte a level: 0, or the refusal's number.
 pub fn rule_witness(table: &[Cell], used: u32, diagram: u32, assignment: &mut [u8]) -> u32
     ensures { Wrote table.now used diagram assignment.old result assignment.new }
 {
-    flat_witness(witness::witness(table, used, diagram, assignment))
+    match witness::witness(table, used, Diagram::new(diagram), assignment) {
+        Ok(()) => 0,
+        Err(refusal) => refusal.into(),
+    }
 }

@@ -1,4 +1,4 @@
-// The static library: `link`'s four functions under their names for C and Rust, with the same promises.
+//! The static library: `link`'s four functions under their names for C and Rust, with the same promises.
 #![tactic(auto)]
 
 ghost use Rattle.std.specs.Prelude.{◌≡◌, length};
@@ -9,7 +9,7 @@ ghost use Rattle.link.specs.Flat.{value_in, Solves, Wrote};
 use diagram::table::Cell;
 use link::{Solved, Valued};
 
-// Solve a sheet at a limit.
+/// Solves a sheet at a limit.
 #[unsafe(no_mangle)]
 pub extern "C" fn rule_solve(
     sheet: &[u8],
@@ -23,7 +23,7 @@ pub extern "C" fn rule_solve(
     link::rule_solve(sheet, limit, table, work)
 }
 
-// Solve a sheet without a named limit.
+/// Solves a sheet without a named limit.
 #[unsafe(no_mangle)]
 pub extern "C" fn rule_solve_unnamed(sheet: &[u8], table: &mut [Cell], work: &mut [u32]) -> Solved
     ensures { Solves (Solve.solve_unnamed sheet.now (length table.old) (length work.old)) result
@@ -32,7 +32,7 @@ pub extern "C" fn rule_solve_unnamed(sheet: &[u8], table: &mut [Cell], work: &mu
     link::rule_solve_unnamed(sheet, table, work)
 }
 
-// The value of a diagram under an assignment, one byte a level.
+/// The value of a diagram under an assignment, one byte a level.
 #[unsafe(no_mangle)]
 pub extern "C" fn rule_value(table: &[Cell], used: u32, diagram: u32, assignment: &[u8]) -> Valued
     ensures { value_in result ≡ Value.value table.now used diagram assignment.now }
@@ -40,7 +40,7 @@ pub extern "C" fn rule_value(table: &[Cell], used: u32, diagram: u32, assignment
     link::rule_value(table, used, diagram, assignment)
 }
 
-// The first assignment that a diagram accepts, one byte a level.
+/// The first assignment that a diagram accepts, one byte a level.
 #[unsafe(no_mangle)]
 pub extern "C" fn rule_witness(
     table: &[Cell],
