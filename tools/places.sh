@@ -28,15 +28,15 @@ count 'while and loop'                                   '^ *(while|loop)\b'
 echo "4. conversion, equality and printing by hand"
 count 'functions that only convert, compare or print'    'fn (number|is|equal_bits|kind_of|wide|byte_at|pair_at|flat_[a-z]+|only_number|judged|unchanged|worked|pair_of|value_of|least|lower|last_digit|put_decimal|clear|put|entry_at)\('
 echo "5. what travels together, and facts in many contracts"
-count 'functions with table and scratch'                 'fn .*t: &mut \[Cell\], w: &mut \[u32\]|^ +w: &mut \[u32\],'
-count 'functions with marks'                             'marks: &mut \[u32\]'
+count 'functions with table and scratch'                 'fn .*t: &mut \[Cell\], (w: &mut \[u32\]|s: &mut Scratch)|^ +(w: &mut \[u32\]|s: &mut Scratch),'
+count 'functions with marks'                             'marks: &mut (\[u32\]|Marks)'
 count 'functions with sheet and entry number'            's: &\[u8\], i: usize|^ +s: &\[u8\],'
 count 'functions with number of a diagram as u32'        '\b(a|b|c|n|x|y|r|low|high|must|may|carry|half): u32\b'
 count 'clauses with Alive'                               'Alive '
 count 'clauses with check s.now ≡ 0'                     'check s\.now ≡ 0'
 count 'clauses with f < 256'                             'f < 256'
 count 'clauses with a limit below 2^32'                  'limit < 4294967296'
-count 'clauses with room for marks'                      '1048576 ≤ 32 \* length marks'
+count 'clauses with room for marks'                      '1048576 ≤ 32 \* (length marks|N)'
 count 'clauses of more than 200 characters'              '^ +(requires|ensures).{200,}'
 echo "6. buffers with a length beside"
 count 'out with at'                                      'out: &mut \[u8\], at: usize'
