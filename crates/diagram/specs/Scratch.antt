@@ -1,8 +1,8 @@
 -- What stands in scratch: the index by which a node is found, and the memo of steps.
 --
 -- Heads and links hold a slot plus one, or 0 for none. A chain runs from a head through links to ever lower slots; there is a link
--- for each of the first slots, as many as there are heads. Slots past those are in no chain. A memo entry is four numbers: the
--- operation and its first operand packed into one, the other two operands, the result.
+-- for each of the first slots, as many as there are heads. Slots past those are in no chain. A memo entry is five numbers: the
+-- operation plus one, the three operands, the result.
 --
 --   Indexed T heads links   each slot of T that has a link is in the chain of its place
 --   Remembers T memo        each remembered result is the operation's
@@ -79,38 +79,32 @@ pub record Result (T : Table) (op a b c r : ℕ) : Type 0 where
   pub gives : (x y z : Tree) → Good 128 x → Good 128 y → Good 128 z → Is T a x → Is T b y → Is T c z →
       Is T r (operation op x y z)
 
--- an operation and its first operand in one number; 0 is nothing remembered
-abbrev pub packed : ℕ → ℕ → ℕ
-packed op a = (op + 1) * 2097152 + a
-
--- what a memo of so many entries is asked for an operation of three diagrams; a first operand that doesn't fit beside an
--- operation has its place past all entries
+-- what a memo of so many entries is asked for an operation of three diagrams
 abbrev pub key_of : ℕ → ℕ → ℕ → ℕ → ℕ → Key
-key_of size op a b c =
-    let fits : Key = record { first = packed op a; b = b; c = c; place = place_of size (packed op a) b c 0 } in
-    let past : Key = record { first = 0; b = b; c = c; place = size } in
-    cond (ltb a 2097152) fits past
+key_of size op a b c = record { operation = op; a = a; b = b; c = c; place = place_of size op a b c }
 
 -- number i of entry e
 abbrev pub number_at : List (List ℕ) → ℕ → ℕ → ℕ
 number_at memo e i = get_or (get_or memo e []) i 0
 
+-- an entry's first number is the operation plus one, 0 where nothing is remembered; then the operands; then the result
 abbrev pub Remembers : Table → List (List ℕ) → Type 0
-Remembers T memo = (e op a : ℕ) → e < length memo → a < 2097152 → number_at memo e 0 ≡ packed op a
-    → Result T op a (number_at memo e 1) (number_at memo e 2) (number_at memo e 3)
+Remembers T memo = (e op : ℕ) → e < length memo → number_at memo e 0 ≡ op + 1
+    → Result T op (number_at memo e 1) (number_at memo e 2) (number_at memo e 3) (number_at memo e 4)
 
 -- some entry says that what the key asks gives r
 pub record Recalled (memo : List (List ℕ)) (key : Key) (r : ℕ) : Type 0 where
   pub entry : ℕ
   pub inside : entry < length memo
-  pub is_first : number_at memo entry 0 ≡ key.first
-  pub is_b : number_at memo entry 1 ≡ key.b
-  pub is_c : number_at memo entry 2 ≡ key.c
-  pub is_r : number_at memo entry 3 ≡ r
+  pub is_operation : number_at memo entry 0 ≡ key.operation + 1
+  pub is_a : number_at memo entry 1 ≡ key.a
+  pub is_b : number_at memo entry 2 ≡ key.b
+  pub is_c : number_at memo entry 3 ≡ key.c
+  pub is_r : number_at memo entry 4 ≡ r
 
 -- the memo with a result kept; where there is no such place it stays as it is
 abbrev pub noted : List (List ℕ) → Key → ℕ → List (List ℕ)
-noted memo key r = set memo key.place (key.first ∷ key.b ∷ key.c ∷ r ∷ [])
+noted memo key r = set memo key.place ((key.operation + 1) ∷ key.a ∷ key.b ∷ key.c ∷ r ∷ [])
 
 -- ---- both
 

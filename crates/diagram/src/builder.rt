@@ -38,6 +38,13 @@ impl Builder {
         Builder { used: 0 }
     }
 
+    /// No step: the state stays, and this is what was made.
+    pub fn still<T>(self, value: T) -> Result<Made<T>, NoRoom>
+        ensures { result ≡ Ok (record { at = self; value = value }) }
+    {
+        Ok(Made { at: self, value })
+    }
+
     /// The diagram of this node: found, or added. Equal halves are their own node. `NoRoom` comes where it would have to be
     /// added and every slot is used.
     pub fn node(self, t: &mut [Cell], s: &mut Scratch, node: Node) -> Result<Made<Diagram>, NoRoom>
@@ -165,7 +172,7 @@ fn joined(every: bool) -> u8
     if every { function::AND } else { function::OR }
 }
 
-// The quantifier step's number in the memo: a number and no enum, since an entry of scratch is four numbers.
+// The quantifier step's number in the memo: a number and no enum, since an entry of scratch holds numbers.
 fn code(every: bool, l: u32) -> u32
     requires { l < 128 }
     ensures { result ≡ cond every (384 + l) (256 + l) }

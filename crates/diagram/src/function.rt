@@ -4,7 +4,7 @@ ghost use Rattle.diagram.specs.Function.{Shorter, Answers, equal_of, kept_of};
 
 use crate::number::Diagram;
 
-// the functions that the steps name
+// The functions that the steps name. Numbers and no enum: the rows are the bits, and `shorten` computes with them.
 
 /// `not a`
 pub const NOT: u8 = 15;

@@ -25,6 +25,7 @@ impl Diagram {
     pub const TRUE: Diagram = Diagram { number: 1 };
 
     /// The mark of a bit that was left out: no diagram's number.
+    // A constant and no Option: a row's place is one number, a diagram's or this.
     pub const UNKNOWN: Diagram = Diagram { number: 4294967295 };
 
     /// The diagram of this number.

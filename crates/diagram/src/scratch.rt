@@ -6,22 +6,22 @@ use crate::number::Diagram;
 use crate::table;
 use crate::table::{Cell, Node};
 
-/// Scratch, divided: the heads and links of the index's chains, and the memo's entries of four numbers each.
+/// Scratch, divided: the heads and links of the index's chains, and the memo's entries of five numbers each.
 #[derive(Drop)]
 pub struct Scratch<'a> {
     pub heads: &'a mut [u32],
     pub links: &'a mut [u32],
-    pub memo: &'a mut [[u32; 4]],
+    pub memo: &'a mut [[u32; 5]],
     ghost one_link_each: { length links.now ≡ length heads.now },
     ghost heads_le: { length heads.now ≤ 1048576 },
     ghost memo_le: { length memo.now ≤ 16777216 },
 }
 
-/// What the memo is asked: an operation of three diagrams, in the numbers of an entry, and its place. `first` is the operation
-/// with its first diagram.
+/// What the memo is asked: an operation of three diagrams, in the numbers of an entry, and its place.
 #[derive(Clone, Copy)]
 pub struct Key {
-    pub first: u32,
+    pub operation: u32,
+    pub a: u32,
     pub b: u32,
     pub c: u32,
     pub place: usize,
@@ -43,7 +43,7 @@ impl<'a> Scratch<'a> {
         let covered = (words.len() / 8).min(table::slots(t));
         let (heads, rest) = words.split_at_mut(covered);
         let (links, rest) = rest.split_at_mut(covered);
-        let (entries, _) = rest.as_chunks_mut::<4>();
+        let (entries, _) = rest.as_chunks_mut::<5>();
         let many = entries.len().min(16777216);
         Scratch {
             heads,
@@ -93,7 +93,7 @@ impl<'a> Scratch<'a> {
         }
         let home = Self::home(covered, node);
         let mut at = self.heads[home] as usize;
-        // a chain's next slot stands in its link, so no range says it
+        // A chain's next slot stands in its link, so no range says it; 0 is no slot, as the words are lent.
         while 0 < at {
             let k = at - 1;
             if node == table::node_at(t, k) {
@@ -118,44 +118,31 @@ impl<'a> Scratch<'a> {
         self.heads[head] = (k + 1) as u32;
     }
 
-    /// What the memo is asked for an operation of three diagrams. A first diagram from 2,097,152 on fits into no entry: nothing
-    /// is remembered of it. No table has so many slots.
+    /// What the memo is asked for an operation of three diagrams.
     pub fn key(&self, operation: u32, a: Diagram, b: Diagram, c: Diagram) -> Key
         requires { operation < 512 }
         ensures { result ≡ key_of (length self.now.memo.now) operation a b c }
     {
-        if 2097152 <= a.number() {
-            return Key {
-                first: 0,
-                b: b.number(),
-                c: c.number(),
-                place: self.memo.len(),
-            };
-        }
-        let first = (operation + 1) * 2097152 + a.number();
+        let (a, b, c) = (a.number(), b.number(), c.number());
         Key {
-            first,
-            b: b.number(),
-            c: c.number(),
-            place: place(self.memo.len(), first, b.number(), c.number(), 0),
+            operation,
+            a,
+            b,
+            c,
+            place: place(self.memo.len(), operation, a, b, c),
         }
     }
 
     /// The remembered result, if there is one.
     pub fn recall(&self, key: Key) -> Option<Diagram>
+        requires { key.operation < 512 }
         ensures { IfSome result (Recalled self.now.memo.now key) }
     {
         if self.memo.len() <= key.place {
             return None;
         }
-        let [first, b, c, r] = self.memo[key.place];
-        if first != key.first {
-            return None;
-        }
-        if b != key.b {
-            return None;
-        }
-        if c != key.c {
+        let [operation, a, b, c, r] = self.memo[key.place];
+        if [operation, a, b, c] != [key.operation + 1, key.a, key.b, key.c] {
             return None;
         }
         Some(Diagram::new(r))
@@ -163,12 +150,13 @@ impl<'a> Scratch<'a> {
 
     /// This operation of these diagrams gives r, from now on, if there is room for it.
     pub fn remember(&mut self, key: Key, r: Diagram)
+        requires { key.operation < 512 }
         ensures memo { self.new.memo.now ≡ noted self.old.memo.now key r }
         ensures index { (self.new.heads.now ≡ self.old.heads.now) × (self.new.links.now ≡ self.old.links.now) }
     {
         if self.memo.len() <= key.place {
             return;
         }
-        self.memo[key.place] = [key.first, key.b, key.c, r.number()];
+        self.memo[key.place] = [key.operation + 1, key.a, key.b, key.c, r.number()];
     }
 }

@@ -28,20 +28,20 @@ indexed_empty n links =
     }
 
 -- entries cut from zeros begin with 0
-chunk_zero : (k n e : ℕ) → ◌≡◌ {A = ℕ} (get_or (get_or (first_chunks 4 k (replicate n 0)) e []) 0 0) 0
+chunk_zero : (k n e : ℕ) → ◌≡◌ {A = ℕ} (get_or (get_or (first_chunks 5 k (replicate n 0)) e []) 0 0) 0
 chunk_zero zero n e = refl
 chunk_zero (suc k) zero zero = refl
 chunk_zero (suc k) (suc n) zero = refl
-chunk_zero (suc k) n (suc e) = rw (drop-replicate {X = ℕ} 4 n 0) (chunk_zero k (n - 4) e)
+chunk_zero (suc k) n (suc e) = rw (drop-replicate {X = ℕ} 5 n 0) (chunk_zero k (n - 5) e)
 
 pub entries_zero : (rest : List ℕ) (n k many e : ℕ) → rest ≡ replicate n 0 → e < many
-    → get_or (get_or (take many (first_chunks 4 k rest)) e []) 0 0 ≡ 0
+    → get_or (get_or (take many (first_chunks 5 k rest)) e []) 0 0 ≡ 0
 entries_zero rest n k many e zeros below =
-    rw (get_or-take many (first_chunks 4 k rest) e [] below, zeros) (chunk_zero k n e)
+    rw (get_or-take many (first_chunks 5 k rest) e [] below, zeros) (chunk_zero k n e)
 
 -- nothing is remembered where each entry begins with 0
 remembers_none : (memo : List (List ℕ)) → ((e : ℕ) → e < length memo → number_at memo e 0 ≡ 0) → Remembers [] memo
-remembers_none memo zeros e op a inside small is = absurd (omega (arith, zeros e inside, is))
+remembers_none memo zeros e op inside is = absurd (omega (arith, zeros e inside, is))
 
 pub ready_empty : {cells : List ℕ} {s : Scratch} (covered : ℕ) → length cells ≤ 3145728 → s.heads.now ≡ replicate covered 0
     → ((e : ℕ) → e < length s.memo.now → number_at s.memo.now e 0 ≡ 0) → Ready cells s (record { used = 0 })

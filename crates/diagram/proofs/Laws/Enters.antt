@@ -79,7 +79,7 @@ module _ {cells : List ℕ} {s : Scratch} {b : Builder} (ready : Ready cells s b
     {key : Key} (entries : ℕ) (asked : key ≡ key_of entries op a c d) where
   pub recalled_stands : {r : ℕ} → Recalled s.memo.now key r → Stands (nodes cells b) r (operation_of cells op a c d)
   recalled_stands {r} said =
-      let right = recalled_is ready entries op a c d known_a asked said in
+      let right = recalled_is ready entries op a c d asked said in
       let x = tree_stands ready a known_a in
       let y = tree_stands ready c known_c in
       let z = tree_stands ready d known_d in

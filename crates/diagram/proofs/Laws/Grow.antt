@@ -45,8 +45,8 @@ result_ext {s} {u} {op} {a} {b} {c} {r} p falls result =
     }
 
 remembers_ext : (s u : Table) (memo : List (List ℕ)) → Ext s u → Falls s → Remembers s memo → Remembers u memo
-remembers_ext s u memo p falls remembers e op a inside small is =
-    result_ext p falls (remembers e op a inside small is)
+remembers_ext s u memo p falls remembers e op inside is =
+    result_ext p falls (remembers e op inside is)
 
 -- ---- scratch with the new slot in the index
 
