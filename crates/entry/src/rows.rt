@@ -1,4 +1,5 @@
-//! The entries' values in a buffer, 32 numbers an entry: a term's places, or a formula's must and may in the first two.
+//! The entries' values in a buffer, 32 numbers an entry: a term's places, or a formula's must and may in the first two. Plain words:
+//! the buffer is the work buffer that a caller lends.
 ghost use Rattle.std.specs.Prelude.{◌≡◌, ◌+◌, ◌*◌, ◌≤◌, get_or, length};
 ghost use Rattle.entry.specs.Rows.{Reads, Keeps};
 

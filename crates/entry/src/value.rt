@@ -50,7 +50,7 @@ fn row_of(p: Pair) -> Row
     Row { bits, width: 0 }
 }
 
-// A formula's value as 32 numbers.
+// A formula's value as 32 numbers. No `From` here either, as above.
 fn judged(made: Result<Made<Pair>, NoRoom>) -> Result<Made<Row>, NoRoom>
     ensures { IsRowOf made result }
 {
@@ -59,13 +59,6 @@ fn judged(made: Result<Made<Pair>, NoRoom>) -> Result<Made<Row>, NoRoom>
         at,
         value: row_of(value),
     })
-}
-
-// No step: the builder stays.
-fn unchanged(b: Builder, value: Row) -> Result<Made<Row>, NoRoom>
-    ensures { result ≡ Ok (record { at = b; value = value }) }
-{
-    Ok(Made { at: b, value })
 }
 
 // One node a bit, bit 0 first.
@@ -101,7 +94,8 @@ fn variable(
     })
 }
 
-// The levels of a variable's bits, bit 0's first, and how many they are: memory is fixed, and the caller goes on with a slice.
+// The levels of a variable's bits, bit 0's first, and how many they are. An array and a number for one call: the kit's
+// `ArrayVec` would come into every crate above for these few lines.
 fn levels_of(variable: CheckedEntry, levels: &mut [u32; 32]) -> usize
     ensures few { result ≤ 32 }
     ensures levels { AreLevelsOf variable.entry.sheet.bytes.now variable.entry.index (take result levels.new) }
@@ -154,7 +148,7 @@ pub fn work<const N: usize>(
     let Operands { x, y, z } = v;
     match entry.kind {
         Kind::Variable => variable(b, t, s, entry),
-        Kind::Constant => unchanged(b, Row::constant(width, entry.constant())),
+        Kind::Constant => b.still(Row::constant(width, entry.constant())),
         Kind::BitNot => bitwise::work(b, t, s, Operation::Not, x, x),
         Kind::Negate => multiply::negate(b, t, s, marks, limit, x),
         Kind::BitAnd => bitwise::work(b, t, s, Operation::And, x, y),
@@ -162,24 +156,18 @@ pub fn work<const N: usize>(
         Kind::BitXor => bitwise::work(b, t, s, Operation::Xor, x, y),
         Kind::Add => add::add(b, t, s, marks, limit, x, y),
         Kind::Multiply => multiply::multiply(b, t, s, marks, limit, x, y),
-        Kind::ShiftLeft => unchanged(b, x.shift_left(entry.amount() as usize % width)),
-        Kind::ShiftRight => unchanged(b, x.shift_right(entry.amount() as usize % width)),
-        Kind::Concat => unchanged(b, x.concat(y)),
-        Kind::Extract => unchanged(b, x.extract(entry.upper() as usize, entry.lower() as usize)),
-        Kind::ZeroExtend => unchanged(b, x.zero_extend(width)),
-        Kind::SignExtend => unchanged(b, x.sign_extend(width)),
+        Kind::ShiftLeft => b.still(x.shift_left(entry.amount() as usize % width)),
+        Kind::ShiftRight => b.still(x.shift_right(entry.amount() as usize % width)),
+        Kind::Concat => b.still(x.concat(y)),
+        Kind::Extract => b.still(x.extract(entry.upper() as usize, entry.lower() as usize)),
+        Kind::ZeroExtend => b.still(x.zero_extend(width)),
+        Kind::SignExtend => b.still(x.sign_extend(width)),
         Kind::Choose => {
             let Pair { must, may } = pair_of(&x);
             bitwise::work(b, t, s, Operation::Choose { must, may }, y, z)
         }
-        Kind::True => judged(Ok(Made {
-            at: b,
-            value: Pair::TRUE,
-        })),
-        Kind::False => judged(Ok(Made {
-            at: b,
-            value: Pair::FALSE,
-        })),
+        Kind::True => judged(b.still(Pair::TRUE)),
+        Kind::False => judged(b.still(Pair::FALSE)),
         Kind::Equal => judged(compare::equal(b, t, s, x, y)),
         Kind::AtMost => judged(compare::at_most(b, t, s, false, x, y)),
         Kind::SignedAtMost => judged(compare::at_most(b, t, s, true, x, y)),

@@ -195,7 +195,8 @@ fn place<const N: usize>(
 /// The sum of two rows of one width at the limit; the carry into bit 0 is false. The limit is a count of nodes: a bit is unknown from
 /// where the sum bits up to it have more. `NoRoom` comes exactly where the steps need more nodes than the table has slots.
 /// The marks are for 1,048,576 slots or more, those of the largest table.
-// Marks and limit stand apart: lent as one, each function here would have to promise that the limit stays as it was.
+// Marks and limit stand apart: lent as one, each function here would have to promise that the limit stays as it was. The clause on
+// marks stays in each: held by the type, it would turn away the smaller marks that a count takes.
 pub fn add<const N: usize>(
     b: Builder,
     t: &mut [Cell],

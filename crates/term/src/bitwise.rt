@@ -26,13 +26,6 @@ pub enum Operation {
     Choose { must: Diagram, may: Diagram },
 }
 
-// What is there already: it takes no step.
-fn still(b: Builder, value: Diagram) -> Result<Made<Diagram>, NoRoom>
-    ensures { result ≡ Ok (record { at = b; value = value }) }
-{
-    Ok(Made { at: b, value })
-}
-
 // A known bit where it alone decides, else unknown.
 fn decided(a: Diagram, decider: Option<bool>) -> Diagram
     ensures { result ≡ decided_of a decider }
@@ -59,10 +52,10 @@ fn pair_bit(
         Works (BitMeans n) t.old b (pair_bit n (table_of f) (decides decider) p q) t.new s.new result }
 {
     if x == Diagram::UNKNOWN {
-        return still(b, decided(y, decider));
+        return b.still(decided(y, decider));
     }
     if y == Diagram::UNKNOWN {
-        return still(b, decided(x, decider));
+        return b.still(decided(x, decider));
     }
     b.step(t, s, f, x, y, Diagram::FALSE)
 }
@@ -84,16 +77,16 @@ fn chosen(
         Works (BitMeans n) t.old b (chosen n c p q) t.new s.new result }
 {
     if condition == Diagram::TRUE {
-        return still(b, x);
+        return b.still(x);
     }
     if condition == Diagram::FALSE {
-        return still(b, y);
+        return b.still(y);
     }
     if x == Diagram::UNKNOWN {
-        return still(b, x);
+        return b.still(x);
     }
     if y == Diagram::UNKNOWN {
-        return still(b, y);
+        return b.still(y);
     }
     b.step(t, s, function::CHOICE, condition, x, y)
 }
@@ -116,12 +109,12 @@ fn choose_bit(
         Works (BitMeans n) t.old b (choose_bit n c d p q) t.new s.new result }
 {
     if x == y {
-        return still(b, x);
+        return b.still(x);
     }
     if must == may {
         return chosen(b, t, s, must, x, y);
     }
-    still(b, Diagram::UNKNOWN)
+    b.still(Diagram::UNKNOWN)
 }
 
 // One bit of an operation. A `match` on a value, no closure: one for each operation would take the state, table and scratch as
@@ -144,7 +137,7 @@ fn bit(
     match *op {
         Operation::Not => {
             if x == Diagram::UNKNOWN {
-                return still(b, x);
+                return b.still(x);
             }
             b.step(t, s, function::NOT, x, Diagram::FALSE, Diagram::FALSE)
         }

@@ -238,7 +238,7 @@ unfolding work_of rule_of rules
 returns-in-Constant g c before long meant =
     let held = given c.args.entry c.in-Constant.is c.requires.operands in
     row_kept held _ _ before (Row.constant c.args.entry.width c.constant.result) _ _ refl
-    (rw (c.args.entry.is_entry.width_is, c.constant.ensures) refl) c.requires.ready c.unchanged.ensures
+    (rw (c.args.entry.is_entry.width_is, c.constant.ensures) refl) c.requires.ready c.still.ensures
     (constant_means _ _ (wide held refl).1 (c.constant-in-Constant.ensures.width, c.constant-in-Constant.ensures.places))
 
 pub returns-in-BitNot : goal.returns-in-BitNot
@@ -294,7 +294,7 @@ returns-in-ShiftLeft g c before long meant =
     let held = given c.args.entry c.in-ShiftLeft.is c.requires.operands in
     let whole : length c.args.v.x.bits ≡ 32 = search search_rules in
     moved held _ _ before meant (Row.shift_left (c.amount.result % c.args.entry.width)) _ _ refl refl
-    (rw (c.args.entry.is_entry.width_is, c.amount.ensures.value) refl) c.requires.ready c.unchanged-in-ShiftLeft.ensures
+    (rw (c.args.entry.is_entry.width_is, c.amount.ensures.value) refl) c.requires.ready c.still-in-ShiftLeft.ensures
     (λ p m. shift_left_means m whole _ (shift_inside held refl _ refl refl)
     (c.shift_left.ensures.width, c.shift_left.ensures.places))
 
@@ -304,7 +304,7 @@ returns-in-ShiftRight g c before long meant =
     let held = given c.args.entry c.in-ShiftRight.is c.requires.operands in
     let whole : length c.args.v.x.bits ≡ 32 = search search_rules in
     moved held _ _ before meant (Row.shift_right (c.amount-in-ShiftRight.result % c.args.entry.width)) _ _ refl refl
-    (rw (c.args.entry.is_entry.width_is, c.amount-in-ShiftRight.ensures.value) refl) c.requires.ready c.unchanged-in-ShiftRight.ensures
+    (rw (c.args.entry.is_entry.width_is, c.amount-in-ShiftRight.ensures.value) refl) c.requires.ready c.still-in-ShiftRight.ensures
     (λ p m. shift_right_means m whole _ (shift_inside held refl _ refl refl)
     (c.shift_right.ensures.width, c.shift_right.ensures.places))
 
@@ -316,7 +316,7 @@ returns-in-Concat g c before long meant =
     let whole_y : length c.args.v.y.bits ≡ 32 = search search_rules in
     let m = terms_mean held meant refl in
     row_kept held _ _ before (Row.concat (row_at before (own c.args.entry) 0) (row_at before (own c.args.entry) 1)) _ _ refl refl
-    c.requires.ready c.unchanged-in-Concat.ensures
+    c.requires.ready c.still-in-Concat.ensures
     (concat_means m.0 m.1 whole whole_y (two_sum held refl refl refl) (c.concat.ensures.width, c.concat.ensures.places))
 
 pub returns-in-Extract : goal.returns-in-Extract
@@ -325,7 +325,7 @@ returns-in-Extract g c before long meant =
     let held = given c.args.entry c.in-Extract.is c.requires.operands in
     let whole : length c.args.v.x.bits ≡ 32 = search search_rules in
     moved held _ _ before meant (Row.extract c.upper.result c.lower.result) _ _ refl refl
-    (rw (c.upper.ensures.value, c.lower.ensures.value) refl) c.requires.ready c.unchanged-in-Extract.ensures
+    (rw (c.upper.ensures.value, c.lower.ensures.value) refl) c.requires.ready c.still-in-Extract.ensures
     (λ p m. extract_means m whole _ _ (rw (c.upper.ensures.value, c.lower.ensures.value) (span_order held refl refl))
     (rw c.upper.ensures.value (span_inside held refl refl)) (c.extract.ensures.width, c.extract.ensures.places))
 
@@ -335,7 +335,7 @@ returns-in-ZeroExtend g c before long meant =
     let held = given c.args.entry c.in-ZeroExtend.is c.requires.operands in
     let whole : length c.args.v.x.bits ≡ 32 = search search_rules in
     moved held _ _ before meant (Row.zero_extend c.args.entry.width) _ _ refl refl
-    (rw c.args.entry.is_entry.width_is refl) c.requires.ready c.unchanged-in-ZeroExtend.ensures
+    (rw c.args.entry.is_entry.width_is refl) c.requires.ready c.still-in-ZeroExtend.ensures
     (λ p m. zero_extend_means m whole _ (wide held refl).1 (one_inside held refl refl)
     (c.zero_extend.ensures.width, c.zero_extend.ensures.places))
 
@@ -345,7 +345,7 @@ returns-in-SignExtend g c before long meant =
     let held = given c.args.entry c.in-SignExtend.is c.requires.operands in
     let whole : length c.args.v.x.bits ≡ 32 = search search_rules in
     moved held _ _ before meant (Row.sign_extend c.args.entry.width) _ _ refl refl
-    (rw c.args.entry.is_entry.width_is refl) c.requires.ready c.unchanged-in-SignExtend.ensures
+    (rw c.args.entry.is_entry.width_is refl) c.requires.ready c.still-in-SignExtend.ensures
     (λ p m. sign_extend_means m whole _ (wide held refl).1 (one_inside held refl refl) (one_some held refl).0
     (c.sign_extend.ensures.width, c.sign_extend.ensures.places))
 
@@ -360,13 +360,13 @@ pub returns-in-True : goal.returns-in-True
 unfolding work_of rule_of rules
 returns-in-True g c before long meant =
     let held = given c.args.entry c.in-True.is c.requires.operands in
-    leaf_enters held _ _ before true _ refl refl c.requires.ready c.judged.ensures
+    leaf_enters held _ _ before true _ refl refl c.requires.ready (rw c.still-in-True.ensures at c.judged.ensures)
 
 pub returns-in-False : goal.returns-in-False
 unfolding work_of rule_of rules
 returns-in-False g c before long meant =
     let held = given c.args.entry c.in-False.is c.requires.operands in
-    leaf_enters held _ _ before false _ refl refl c.requires.ready c.judged-in-False.ensures
+    leaf_enters held _ _ before false _ refl refl c.requires.ready (rw c.still-in-False.ensures at c.judged-in-False.ensures)
 
 pub returns-in-Equal : goal.returns-in-Equal
 unfolding work_of rule_of rules
