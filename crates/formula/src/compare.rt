@@ -43,7 +43,8 @@ fn agree_bit(
         .step(t, s, function::AND, r, agree.value, Diagram::FALSE)
 }
 
-// The conjunction, from bit 0 on, of "the bits agree" where both are known. One function for this loop and `chain`'s would take
+// The conjunction, from bit 0 on, of "the bits agree" where both are known. Two rows and no type for a pair of one width: each pair is
+// made for one call, and what is known of its numbers depends on the builder's state. One function for this loop and `chain`'s would take
 // the turn as a closure: its contract, over every table and scratch that a turn meets, would be longer than both loops.
 fn agreement(
     b: Builder,

@@ -11,7 +11,8 @@ use diagram::number::Diagram;
 use diagram::scratch::Scratch;
 use diagram::table::Cell;
 
-// The or (and, where `every`) of both choices at each of the levels, the last one's first.
+// The or (and, where `every`) of both choices at each of the levels, the last one's first. A loop of its own: the turn as a closure
+// would have a contract over every table and scratch that it meets, longer than the loop.
 fn chain(
     b: Builder,
     t: &mut [Cell],

@@ -13,7 +13,7 @@ use prover::answer::{Numbers, Refusal};
 use prover::{answer, solve};
 
 /// The number, 0 or the refusal's, then the verdict (1 sat, 2 unsat, 3 unknown), must, may and the slots used; zeros on a refusal.
-// Numbers and no Result: the C interface.
+// Numbers and no Result: the C interface. Beside prover's `Numbers`, the same five: this layout is C's.
 #[repr(C)]
 #[derive(Clone, Copy)]
 pub struct Solved {

@@ -14,7 +14,8 @@ use prover::answer::Numbers;
 pub type Listing = Page<8786>;
 
 /// The listing of these numbers. a says the witness of must, one byte a level.
-// Numbers and no Result, since the clause `text` tells what is listed for any numbers.
+// Numbers and no Result, since the clause `text` tells what is listed for any numbers; plain bytes, which need to be a checked sheet's
+// only where the number is 0.
 #[tactic(auto, using(sheet::proofs::Laws::Check::checked_laid, crate::proofs::Laws::Listing::listed_refused, crate::proofs::Laws::Listing::listed_judged, crate::proofs::Laws::Listing::listed_sat))]
 pub fn listing(s: &[u8], n: Numbers, a: &[u8]) -> Listing
     requires passed { n.number ≡ 0 → check s.now ≡ 0 }

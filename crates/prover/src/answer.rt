@@ -49,8 +49,8 @@ impl Verdict {
     ghost use Rattle.meaning.specs.Program.{text, verdict_word};
     ghost use Rattle.prover.specs.Answer.{verdict_number};
 
-    /// The verdict's word: sat, unsat or unknown.
-    pub fn word(self) -> &'static str
+    // The verdict's word: sat, unsat or unknown.
+    fn word(self) -> &'static str
         ensures { result.now ≡ text (verdict_word (verdict_number self)) }
     {
         match self {

@@ -48,7 +48,8 @@ fn operands(entry: CheckedEntry, kept: &[u32]) -> Operands
     }
 }
 
-// Every entry, in entry order, needed by the last one or not. Gives the last state and the last entry's pair.
+// Every entry, in entry order, needed by the last one or not. Gives the last state and the last entry's pair. The buffers' lengths are
+// clauses and no types: table and buffers are plain slices, lent by whoever calls.
 fn run(
     sheet: CheckedSheet,
     limit: u32,

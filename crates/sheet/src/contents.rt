@@ -1,4 +1,4 @@
-//! Refusals 1, 2 and 3: the table of contents and where the bodies lie.
+//! Refusals 1, 2 and 3: the table of contents and where the bodies lie. Plain bytes: these are what makes a `Sheet`.
 ghost use Rattle.std.specs.Prelude.{◌≡◌, ◌+◌, ◌≤◌, length};
 ghost use Rattle.meaning.specs.Kind.{rule_of};
 ghost use Rattle.meaning.specs.Sheet.{record_at, rule_at, width_at};

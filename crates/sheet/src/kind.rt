@@ -213,6 +213,7 @@ const RULES: &[Rule; 26] = &[
 
 impl Kind {
     /// The kind with this number, or `None` where the table of kinds has no such number.
+    // An Option and no TryFrom: there is one way to fail, and an error would say no more.
     #[tactic(auto, unfolding(meaning::specs::Kind::rule_of, meaning::specs::Kind::rules))]
     pub fn of(number: u8) -> Option<Kind>
         ensures { Decodes number result }
