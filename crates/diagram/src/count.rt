@@ -1,53 +1,56 @@
-//! The distinct nodes of some diagrams: each is marked when it is counted, one bit a slot.
-ghost use Rattle.std.specs.Prelude.{◌≡◌, ◌*◌, ◌≤◌, ◌<◌, List, ℕ, length, replicate};
+//! The distinct nodes of some diagrams: each is marked when it is counted, one bit a slot, in lent words.
+ghost use Rattle.std.specs.Prelude.{◌≡◌, ◌*◌, ◌≤◌, ◌<◌, length};
 ghost use Rattle.diagram.specs.Count.{marked_at, marking, Unmarked, Visitable, Visited};
 
 use crate::number::Diagram;
 use crate::table;
 use crate::table::Cell;
-use std::marker::Model;
 
-/// Marks for 32 * N slots. In contracts they are a list of words, 32 slots a word.
+/// How many words hold the marks of the largest table, 1,048,576 slots.
+pub const TABLE_WORDS: usize = 32768;
+
+/// Lent words with marks for the largest table, whatever stands in them: a run lends them once, whatever the table that it is lent.
 #[derive(Drop)]
-pub struct Marks<const N: usize> {
-    words: [u32; N],
+pub struct Marks<'a> {
+    pub words: &'a mut [u32],
+    ghost enough: { 1048576 ≤ 32 * length words.now },
 }
 
-/// Marks for the largest table, 1,048,576 slots: a run makes them once, whatever the table that it is lent.
-pub type TableMarks = Marks<32768>;
-
-impl<const N: usize> Model for Marks<N> {
-    ghost Value = { List ℕ };
-
-    ghost view = { λ m. m.words };
-}
-
-impl<const N: usize> Marks<N> {
-    /// Marks for a count, all clear.
-    pub fn new() -> Self
-        ensures { result ≡ replicate N 0 }
+impl<'a> Marks<'a> {
+    /// Marks in these words. They may be more than the largest table needs.
+    pub fn new(words: &'a mut [u32]) -> Marks<'a>
+        requires { 1048576 ≤ 32 * length words.old }
+        ensures { result.words.now ≡ words.old }
     {
-        Marks { words: [0; N] }
+        Marks { words }
     }
 
     /// Nothing is counted yet: no slot below `room` is marked.
     pub fn clear(&mut self, room: usize)
-        requires fits { room ≤ 1048576 }
-        requires marks { room ≤ 32 * N }
-        ensures { Unmarked room self.new }
+        requires { room ≤ 1048576 }
+        ensures { Unmarked room self.new.words.now }
     {
-        let words = (room + 31) / 32;
-        self.words[..words].fill(0);
+        begin(self.words, room);
     }
 
-    /// `count`, and the nodes of diagram n that aren't counted yet: low part, high part, then the node. It may stop once the
-    /// count exceeds the limit; marks and count are then of no more use.
+    /// The same as `visit` of these words.
     pub fn visit(&mut self, t: &[Cell], n: Diagram, count: usize, limit: u32) -> usize
-        requires { Visitable t.now N n }
-        ensures { Visited t.now self.old n count limit self.new result }
+        requires { Visitable t.now (length self.old.words.now) n }
+        ensures { Visited t.now self.old.words.now n count limit self.new.words.now result }
     {
-        visit(&mut self.words, t, n, count, limit)
+        visit(self.words, t, n, count, limit)
     }
+}
+
+/// Nothing is counted yet: no slot below `room` is marked in these words.
+#[tactic(auto, using(crate::proofs::Laws::Mark::cleared))]
+pub fn begin(words: &mut [u32], room: usize)
+    requires fits { room ≤ 1048576 }
+    requires marks { room ≤ 32 * length words.old }
+    ensures { Unmarked room words.new }
+{
+    let many = (room + 31) / 32;
+    words[..many].fill(0);
 }
 
 // Is slot k marked?
@@ -68,8 +71,9 @@ fn mark(words: &mut [u32], k: usize)
     words[k / 32] |= 1 << (k % 32);
 }
 
-// Marks of any length: a method of `Marks` that calls itself is refused, since it has a const parameter.
-fn visit(words: &mut [u32], t: &[Cell], n: Diagram, count: usize, limit: u32) -> usize
+/// `count`, and the nodes of diagram n that aren't counted yet: low part, high part, then the node. It may stop once the
+/// count exceeds the limit; marks and count are then of no more use. Words of any number, with a mark for each used slot.
+pub fn visit(words: &mut [u32], t: &[Cell], n: Diagram, count: usize, limit: u32) -> usize
     requires { Visitable t.now (length words.old) n }
     ensures { Visited t.now words.old n count limit words.new result }
 {

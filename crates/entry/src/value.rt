@@ -128,18 +128,17 @@ fn quantified(
 
 /// Entry i of a sheet that has passed the check. `NoRoom` comes exactly where its steps need more nodes than there are slots.
 /// The marks are for 1,048,576 slots or more, those of the largest table.
-pub fn work<const N: usize>(
+pub fn work(
     b: Builder,
     t: &mut [Cell],
     s: &mut Scratch,
-    marks: &mut Marks<N>,
+    marks: &mut Marks,
     limit: u32,
     entry: CheckedEntry,
     v: Operands,
 ) -> Result<Made<Row>, NoRoom>
     requires ready { Ready t.old s.old b }
     requires operands { OperandsHeld entry.sheet.bytes.now entry.index b v }
-    requires marks { 1048576 ≤ 32 * N }
     ensures { (before : List Value) → length before ≡ entry.entry.index →
         OperandsMeant entry.entry.sheet.bytes.now entry.entry.index t.old b before v →
         IsWorked entry.entry.sheet.bytes.now entry.entry.index limit before t.old b t.new s.new result }

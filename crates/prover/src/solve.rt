@@ -6,7 +6,7 @@ ghost use Rattle.prover.specs.Answer.{outcome, used_slots, cleared_behind, Meets
 
 use crate::answer::{Refusal, Solved, Verdict};
 use diagram::builder::{Builder, Made, NoRoom};
-use diagram::count::TableMarks;
+use diagram::count::{Marks, TABLE_WORDS};
 use diagram::scratch::Scratch;
 use diagram::table;
 use diagram::table::Cell;
@@ -61,7 +61,8 @@ fn run(
     requires small { length t.old ≤ 3145728 }
     ensures { Ran sheet.entry.bytes.now limit t.old t.new result }
 {
-    let mut marks = TableMarks::new();
+    let mut marked = [0; TABLE_WORDS];
+    let mut marks = Marks::new(&mut marked);
     let mut s = Scratch::new(t, words);
     let mut at = Builder::new();
     let count = sheet.count();

@@ -104,10 +104,9 @@ fn carry_bit(
 }
 
 // Before the first sum bit is counted nothing is marked, not even a slot that is used only later.
-fn clear<const N: usize>(t: &[Cell], marks: &mut Marks<N>, counted: usize)
+fn clear(t: &[Cell], marks: &mut Marks, counted: usize)
     requires small { length t.now ≤ 3145728 }
-    requires marks { 1048576 ≤ 32 * N }
-    ensures { Clears t.now counted marks.old marks.new }
+    ensures { Clears t.now counted marks.old.words.now marks.new.words.now }
 {
     let counts_some = 0 < counted;
     if counts_some {
@@ -118,18 +117,17 @@ fn clear<const N: usize>(t: &[Cell], marks: &mut Marks<N>, counted: usize)
 
 // Counts the distinct nodes of sum bits 0 to k - 1, those of the first bits being counted before. While no more slots
 // are used than the limit, the nodes can't exceed it, and none is counted.
-fn walk<const N: usize>(
+fn walk(
     b: Builder,
     t: &[Cell],
-    marks: &mut Marks<N>,
+    marks: &mut Marks,
     limit: u32,
     bits: [u32; 32],
     k: usize,
     before: Tally,
 ) -> Tally
-    requires countable { Countable t.now marks.old b limit bits k before }
-    requires marks { 1048576 ≤ 32 * N }
-    ensures { Told t.now marks.new b limit bits k result }
+    requires countable { Countable t.now marks.old.words.now b limit bits k before }
+    ensures { Told t.now marks.new.words.now b limit bits k result }
 {
     if b.used <= limit as usize {
         return before;
@@ -144,22 +142,21 @@ fn walk<const N: usize>(
 
 // One place more, of operand bits x and y. None where one is unknown, or there are too many nodes: the bits from there on
 // are unknown.
-fn place<const N: usize>(
+fn place(
     b: Builder,
     t: &mut [Cell],
     s: &mut Scratch,
-    marks: &mut Marks<N>,
+    marks: &mut Marks,
     limit: u32,
     sum: Sum,
     x: Diagram,
     y: Diagram,
     top: bool,
 ) -> Result<Made<Option<Sum>>, NoRoom>
-    requires summing { Summing t.old s.old marks.old b limit sum }
+    requires summing { Summing t.old s.old marks.old.words.now b limit sum }
     requires known { BitKnown b x × BitKnown b y }
-    requires marks { 1048576 ≤ 32 * N }
     ensures place { Places limit t.old b sum x y top t.new s.new result }
-    ensures tally { Tallying t.new marks.new limit result }
+    ensures tally { Tallying t.new marks.new.words.now limit result }
 {
     // the bits from here on are unknown
     let cut: Option<Sum> = None;
@@ -195,19 +192,17 @@ fn place<const N: usize>(
 /// The sum of two rows of one width at the limit; the carry into bit 0 is false. The limit is a count of nodes: a bit is unknown from
 /// where the sum bits up to it have more. `NoRoom` comes exactly where the steps need more nodes than the table has slots.
 /// The marks are for 1,048,576 slots or more, those of the largest table.
-// Marks and limit stand apart: lent as one, each function here would have to promise that the limit stays as it was. The clause on
-// marks stays in each: held by the type, it would turn away the smaller marks that a count takes.
-pub fn add<const N: usize>(
+// Marks and limit stand apart: lent as one, each function here would have to promise that the limit stays as it was.
+pub fn add(
     b: Builder,
     t: &mut [Cell],
     s: &mut Scratch,
-    marks: &mut Marks<N>,
+    marks: &mut Marks,
     limit: u32,
     x: Row,
     y: Row,
 ) -> Result<Made<Row>, NoRoom>
     requires addable { Addable t.old s.old b x y }
-    requires marks { 1048576 ≤ 32 * N }
     ensures { OnRows (λ n. Definition.add n limit) x y t.old b t.new s.new result }
 {
     let width = x.width;

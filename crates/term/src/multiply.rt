@@ -17,16 +17,15 @@ use diagram::table::Cell;
 
 /// The negative of a row at the limit: the bitwise not, then add constant 1. `NoRoom` comes exactly where the steps need more
 /// nodes than the table has slots. The marks are for 1,048,576 slots or more, those of the largest table.
-pub fn negate<const N: usize>(
+pub fn negate(
     b: Builder,
     t: &mut [Cell],
     s: &mut Scratch,
-    marks: &mut Marks<N>,
+    marks: &mut Marks,
     limit: u32,
     x: Row,
 ) -> Result<Made<Row>, NoRoom>
     requires addable { Addable t.old s.old b x x }
-    requires marks { 1048576 ≤ 32 * N }
     ensures { OnRow (λ n. Definition.negate n limit) x t.old b t.new s.new result }
 {
     let flipped = bitwise::work(b, t, s, Operation::Not, x, x)?;
@@ -70,17 +69,16 @@ fn partial(
 /// The product of two rows of one width at the limit: start with zero; for each bit of `y`, 0 first, add its row. `NoRoom` comes
 /// exactly where the steps need more nodes than the table has slots. The marks are for 1,048,576 slots or more, those of the
 /// largest table.
-pub fn multiply<const N: usize>(
+pub fn multiply(
     b: Builder,
     t: &mut [Cell],
     s: &mut Scratch,
-    marks: &mut Marks<N>,
+    marks: &mut Marks,
     limit: u32,
     x: Row,
     y: Row,
 ) -> Result<Made<Row>, NoRoom>
     requires addable { Addable t.old s.old b x y }
-    requires marks { 1048576 ≤ 32 * N }
     ensures { OnRows (λ n. Definition.multiply n limit) x y t.old b t.new s.new result }
 {
     let width = x.width;

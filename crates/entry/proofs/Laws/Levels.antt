@@ -22,12 +22,12 @@ use Rattle.meaning.specs.Level.{level, levels, variable_bits}
 use Rattle.meaning.specs.Run as Run
 use Rattle.meaning.specs.Step as Step
 use Rattle.meaning.proofs.Laws.Number.{up_to_length, up_to_at}
-use Rattle.diagram.specs.State.{Ready, After, Lacks, Does, Means, Joins}
+use Rattle.diagram.specs.State.{After, Lacks, Does, Means, Joins}
 use Rattle.diagram.specs.declared.builder.Builder.{Builder}
 use Rattle.diagram.specs.declared.builder.Made.{Made}
 use Rattle.diagram.specs.declared.builder.NoRoom.{NoRoom}
 use Rattle.diagram.specs.declared.scratch.Scratch.{Scratch}
-use Rattle.diagram.proofs.Laws.After.{after_nothing, after_then, lacks_then, lacks_more}
+use Rattle.diagram.proofs.Laws.After.{after_then, lacks_then, lacks_more}
 use Rattle.sheet.specs.declared.checked.CheckedEntry.{CheckedEntry}
 use Rattle.sheet.proofs.Laws.Passed.{passed_levels, passed_level}
 use Rattle.sheet.proofs.Laws.Sheet.{entry_at_lem}

@@ -25,134 +25,134 @@ use Rattle.entry.proofs.value.work.Goals as goal
 
 pub constant-requires-in-Constant : goal.constant-requires-in-Constant
 unfolding rule_of rules
-constant-requires-in-Constant g c = (wide (given c.args.entry c.in-Constant.is c.requires.operands) refl).1
+constant-requires-in-Constant c = (wide (given c.args.entry c.in-Constant.is c.requires.operands) refl).1
 
 pub work-requires-clause-known : goal.work-requires-clause-known
 unfolding rule_of rules
-work-requires-clause-known g c =
+work-requires-clause-known c =
     let known = one_known (given c.args.entry c.in-BitNot.is c.requires.operands) refl in
     (known, known)
 
 pub negate-requires : goal.negate-requires
 unfolding rule_of rules
-negate-requires g c =
+negate-requires c =
     let addable = one_addable (given c.args.entry c.in-Negate.is c.requires.operands) c.requires.ready refl in
-    (omega arith, (addable, c.requires.marks))
+    record { addable = addable }
 
 pub work-requires-in-BitAnd-clause-known : goal.work-requires-in-BitAnd-clause-known
 unfolding rule_of rules
-work-requires-in-BitAnd-clause-known g c = two_known (given c.args.entry c.in-BitAnd.is c.requires.operands) refl
+work-requires-in-BitAnd-clause-known c = two_known (given c.args.entry c.in-BitAnd.is c.requires.operands) refl
 
 pub work-requires-in-BitAnd-clause-width : goal.work-requires-in-BitAnd-clause-width
 unfolding rule_of rules
-work-requires-in-BitAnd-clause-width g c = two_own (given c.args.entry c.in-BitAnd.is c.requires.operands) refl refl
+work-requires-in-BitAnd-clause-width c = two_own (given c.args.entry c.in-BitAnd.is c.requires.operands) refl refl
 
 pub work-requires-in-BitOr-clause-known : goal.work-requires-in-BitOr-clause-known
 unfolding rule_of rules
-work-requires-in-BitOr-clause-known g c = two_known (given c.args.entry c.in-BitOr.is c.requires.operands) refl
+work-requires-in-BitOr-clause-known c = two_known (given c.args.entry c.in-BitOr.is c.requires.operands) refl
 
 pub work-requires-in-BitOr-clause-width : goal.work-requires-in-BitOr-clause-width
 unfolding rule_of rules
-work-requires-in-BitOr-clause-width g c = two_own (given c.args.entry c.in-BitOr.is c.requires.operands) refl refl
+work-requires-in-BitOr-clause-width c = two_own (given c.args.entry c.in-BitOr.is c.requires.operands) refl refl
 
 pub work-requires-in-BitXor-clause-known : goal.work-requires-in-BitXor-clause-known
 unfolding rule_of rules
-work-requires-in-BitXor-clause-known g c = two_known (given c.args.entry c.in-BitXor.is c.requires.operands) refl
+work-requires-in-BitXor-clause-known c = two_known (given c.args.entry c.in-BitXor.is c.requires.operands) refl
 
 pub work-requires-in-BitXor-clause-width : goal.work-requires-in-BitXor-clause-width
 unfolding rule_of rules
-work-requires-in-BitXor-clause-width g c = two_own (given c.args.entry c.in-BitXor.is c.requires.operands) refl refl
+work-requires-in-BitXor-clause-width c = two_own (given c.args.entry c.in-BitXor.is c.requires.operands) refl refl
 
 pub add-requires : goal.add-requires
 unfolding rule_of rules
-add-requires g c =
+add-requires c =
     let addable = two_addable (given c.args.entry c.in-Add.is c.requires.operands) c.requires.ready refl refl in
-    (omega arith, (addable, c.requires.marks))
+    record { addable = addable }
 
 pub multiply-requires : goal.multiply-requires
 unfolding rule_of rules
-multiply-requires g c =
+multiply-requires c =
     let addable = two_addable (given c.args.entry c.in-Multiply.is c.requires.operands) c.requires.ready refl refl in
-    (omega arith, (addable, c.requires.marks))
+    record { addable = addable }
 
 pub nonzero_rem-amount : goal.nonzero_rem-amount
 unfolding rule_of rules
-nonzero_rem-amount g c = (wide (given c.args.entry c.in-ShiftLeft.is c.requires.operands) refl).0
+nonzero_rem-amount c = (wide (given c.args.entry c.in-ShiftLeft.is c.requires.operands) refl).0
 
 pub shift_left-requires-clause-narrow : goal.shift_left-requires-clause-narrow
 unfolding rule_of rules
-shift_left-requires-clause-narrow g c = (one_some (given c.args.entry c.in-ShiftLeft.is c.requires.operands) refl).1
+shift_left-requires-clause-narrow c = (one_some (given c.args.entry c.in-ShiftLeft.is c.requires.operands) refl).1
 
 pub shift_left-requires-clause-inside : goal.shift_left-requires-clause-inside
 unfolding rule_of rules
-shift_left-requires-clause-inside g c =
+shift_left-requires-clause-inside c =
     let held = given c.args.entry c.in-ShiftLeft.is c.requires.operands in
     shift_inside held refl c.amount.result refl refl
 
 pub nonzero_rem-amount-in-ShiftRight : goal.nonzero_rem-amount-in-ShiftRight
 unfolding rule_of rules
-nonzero_rem-amount-in-ShiftRight g c = (wide (given c.args.entry c.in-ShiftRight.is c.requires.operands) refl).0
+nonzero_rem-amount-in-ShiftRight c = (wide (given c.args.entry c.in-ShiftRight.is c.requires.operands) refl).0
 
 pub shift_right-requires-clause-narrow : goal.shift_right-requires-clause-narrow
 unfolding rule_of rules
-shift_right-requires-clause-narrow g c = (one_some (given c.args.entry c.in-ShiftRight.is c.requires.operands) refl).1
+shift_right-requires-clause-narrow c = (one_some (given c.args.entry c.in-ShiftRight.is c.requires.operands) refl).1
 
 pub shift_right-requires-clause-inside : goal.shift_right-requires-clause-inside
 unfolding rule_of rules
-shift_right-requires-clause-inside g c =
+shift_right-requires-clause-inside c =
     let held = given c.args.entry c.in-ShiftRight.is c.requires.operands in
     shift_inside held refl c.amount-in-ShiftRight.result refl refl
 
 pub concat-requires : goal.concat-requires
 unfolding rule_of rules
-concat-requires g c = omega (arith, two_sum (given c.args.entry c.in-Concat.is c.requires.operands) refl refl refl)
+concat-requires c = omega (arith, two_sum (given c.args.entry c.in-Concat.is c.requires.operands) refl refl refl)
 
 pub extract-requires-clause-narrow : goal.extract-requires-clause-narrow
 unfolding rule_of rules
-extract-requires-clause-narrow g c = (one_some (given c.args.entry c.in-Extract.is c.requires.operands) refl).1
+extract-requires-clause-narrow c = (one_some (given c.args.entry c.in-Extract.is c.requires.operands) refl).1
 
 pub extract-requires-clause-order : goal.extract-requires-clause-order
 unfolding rule_of rules
-extract-requires-clause-order g c =
+extract-requires-clause-order c =
     let held = given c.args.entry c.in-Extract.is c.requires.operands in
     rw (c.upper.ensures.value, c.lower.ensures.value) (span_order held refl refl)
 
 pub extract-requires-clause-inside : goal.extract-requires-clause-inside
 unfolding rule_of rules
-extract-requires-clause-inside g c =
+extract-requires-clause-inside c =
     let held = given c.args.entry c.in-Extract.is c.requires.operands in
     rw c.upper.ensures.value (span_inside held refl refl)
 
 pub zero_extend-requires-clause-narrow : goal.zero_extend-requires-clause-narrow
 unfolding rule_of rules
-zero_extend-requires-clause-narrow g c = (wide (given c.args.entry c.in-ZeroExtend.is c.requires.operands) refl).1
+zero_extend-requires-clause-narrow c = (wide (given c.args.entry c.in-ZeroExtend.is c.requires.operands) refl).1
 
 pub zero_extend-requires-clause-inside : goal.zero_extend-requires-clause-inside
 unfolding rule_of rules
-zero_extend-requires-clause-inside g c = one_inside (given c.args.entry c.in-ZeroExtend.is c.requires.operands) refl refl
+zero_extend-requires-clause-inside c = one_inside (given c.args.entry c.in-ZeroExtend.is c.requires.operands) refl refl
 
 pub sign_extend-requires-clause-narrow : goal.sign_extend-requires-clause-narrow
 unfolding rule_of rules
-sign_extend-requires-clause-narrow g c = (wide (given c.args.entry c.in-SignExtend.is c.requires.operands) refl).1
+sign_extend-requires-clause-narrow c = (wide (given c.args.entry c.in-SignExtend.is c.requires.operands) refl).1
 
 pub sign_extend-requires-clause-inside : goal.sign_extend-requires-clause-inside
 unfolding rule_of rules
-sign_extend-requires-clause-inside g c = one_inside (given c.args.entry c.in-SignExtend.is c.requires.operands) refl refl
+sign_extend-requires-clause-inside c = one_inside (given c.args.entry c.in-SignExtend.is c.requires.operands) refl refl
 
 pub sign_extend-requires-clause-some : goal.sign_extend-requires-clause-some
 unfolding rule_of rules
-sign_extend-requires-clause-some g c = (one_some (given c.args.entry c.in-SignExtend.is c.requires.operands) refl).0
+sign_extend-requires-clause-some c = (one_some (given c.args.entry c.in-SignExtend.is c.requires.operands) refl).0
 
 pub work-requires-in-Choose-clause-condition : goal.work-requires-in-Choose-clause-condition
 unfolding rule_of rules
-work-requires-in-Choose-clause-condition g c =
+work-requires-in-Choose-clause-condition c =
     let held = given c.args.entry c.in-Choose.is c.requires.operands in
     let known : PairKnown c.args.b c.pair_of-must.result = rw c.pair_of-must.ensures (choice_condition held refl) in
     (known.must, known.may)
 
 pub work-requires-in-Choose-clause-known : goal.work-requires-in-Choose-clause-known
 unfolding rule_of rules
-work-requires-in-Choose-clause-known g c =
+work-requires-in-Choose-clause-known c =
     let known = choice_known (given c.args.entry c.in-Choose.is c.requires.operands) refl in
     let y = known.0 in
     let z = known.1 in
@@ -160,82 +160,82 @@ work-requires-in-Choose-clause-known g c =
 
 pub work-requires-in-Choose-clause-width : goal.work-requires-in-Choose-clause-width
 unfolding rule_of rules
-work-requires-in-Choose-clause-width g c =
+work-requires-in-Choose-clause-width c =
     let held = given c.args.entry c.in-Choose.is c.requires.operands in
     omega (arith, choice_own held refl refl)
 
 pub equal-requires-clause-known : goal.equal-requires-clause-known
 unfolding rule_of rules
-equal-requires-clause-known g c = two_known (given c.args.entry c.in-Equal.is c.requires.operands) refl
+equal-requires-clause-known c = two_known (given c.args.entry c.in-Equal.is c.requires.operands) refl
 
 pub equal-requires-clause-same_width : goal.equal-requires-clause-same_width
 unfolding rule_of rules
-equal-requires-clause-same_width g c = two_alike (given c.args.entry c.in-Equal.is c.requires.operands) refl refl
+equal-requires-clause-same_width c = two_alike (given c.args.entry c.in-Equal.is c.requires.operands) refl refl
 
 pub at_most-requires-clause-known : goal.at_most-requires-clause-known
 unfolding rule_of rules
-at_most-requires-clause-known g c = two_known (given c.args.entry c.in-AtMost.is c.requires.operands) refl
+at_most-requires-clause-known c = two_known (given c.args.entry c.in-AtMost.is c.requires.operands) refl
 
 pub at_most-requires-clause-same_width : goal.at_most-requires-clause-same_width
 unfolding rule_of rules
-at_most-requires-clause-same_width g c = two_alike (given c.args.entry c.in-AtMost.is c.requires.operands) refl refl
+at_most-requires-clause-same_width c = two_alike (given c.args.entry c.in-AtMost.is c.requires.operands) refl refl
 
 pub at_most-requires-in-SignedAtMost-clause-known : goal.at_most-requires-in-SignedAtMost-clause-known
 unfolding rule_of rules
-at_most-requires-in-SignedAtMost-clause-known g c =
+at_most-requires-in-SignedAtMost-clause-known c =
     let held = given c.args.entry c.in-SignedAtMost.is c.requires.operands in
     two_known held refl
 
 pub at_most-requires-in-SignedAtMost-clause-same_width : goal.at_most-requires-in-SignedAtMost-clause-same_width
 unfolding rule_of rules
-at_most-requires-in-SignedAtMost-clause-same_width g c =
+at_most-requires-in-SignedAtMost-clause-same_width c =
     let held = given c.args.entry c.in-SignedAtMost.is c.requires.operands in
     two_alike held refl refl
 
 pub negation-requires-clause-known : goal.negation-requires-clause-known
 unfolding rule_of rules
-negation-requires-clause-known g c = rw c.pair_of.ensures (one_pair (given c.args.entry c.in-Not.is c.requires.operands) refl)
+negation-requires-clause-known c = rw c.pair_of.ensures (one_pair (given c.args.entry c.in-Not.is c.requires.operands) refl)
 
 pub both-requires-clause-known : goal.both-requires-clause-known
 unfolding rule_of rules
-both-requires-clause-known g c =
+both-requires-clause-known c =
     let held = given c.args.entry c.in-And.is c.requires.operands in
     rw (c.pair_of-in-And.ensures, c.pair_of-in-And-2.ensures) (two_pairs held refl)
 
 pub both-requires-in-Or-clause-known : goal.both-requires-in-Or-clause-known
 unfolding rule_of rules
-both-requires-in-Or-clause-known g c =
+both-requires-in-Or-clause-known c =
     let held = given c.args.entry c.in-Or.is c.requires.operands in
     rw (c.pair_of-in-Or.ensures, c.pair_of-in-Or-2.ensures) (two_pairs held refl)
 
 pub operand-requires : goal.operand-requires
 unfolding rule_of rules
-operand-requires g c = omega (arith, many (given c.args.entry c.in-Exists.is c.requires.operands) refl)
+operand-requires c = omega (arith, many (given c.args.entry c.in-Exists.is c.requires.operands) refl)
 
 pub quantified-requires-clause-known : goal.quantified-requires-clause-known
 unfolding rule_of rules
-quantified-requires-clause-known g c =
+quantified-requires-clause-known c =
     let held = given c.args.entry c.in-Exists.is c.requires.operands in
     rw c.pair_of-in-Exists.ensures (bound_pair held refl)
 
 pub operand-requires-in-ForAll : goal.operand-requires-in-ForAll
 unfolding rule_of rules
-operand-requires-in-ForAll g c = omega (arith, many (given c.args.entry c.in-ForAll.is c.requires.operands) refl)
+operand-requires-in-ForAll c = omega (arith, many (given c.args.entry c.in-ForAll.is c.requires.operands) refl)
 
 pub quantified-requires-in-ForAll-clause-known : goal.quantified-requires-in-ForAll-clause-known
 unfolding rule_of rules
-quantified-requires-in-ForAll-clause-known g c =
+quantified-requires-in-ForAll-clause-known c =
     let held = given c.args.entry c.in-ForAll.is c.requires.operands in
     rw c.pair_of-in-ForAll.ensures (bound_pair held refl)
 
 pub returns-in-Variable : goal.returns-in-Variable
-returns-in-Variable g c before long meant =
+returns-in-Variable c before long meant =
     let held = given c.args.entry c.in-Variable.is c.requires.operands in
     variable_enters held _ _ before _ _ _ long c.variable.ensures
 
 pub returns-in-Constant : goal.returns-in-Constant
 unfolding work_of rule_of rules
-returns-in-Constant g c before long meant =
+returns-in-Constant c before long meant =
     let held = given c.args.entry c.in-Constant.is c.requires.operands in
     row_kept held _ _ before (Row.constant c.args.entry.width c.constant.result) _ _ refl
     (rw (c.args.entry.is_entry.width_is, c.constant.ensures) refl) c.requires.ready c.still.ensures
@@ -243,54 +243,54 @@ returns-in-Constant g c before long meant =
 
 pub returns-in-BitNot : goal.returns-in-BitNot
 unfolding work_of rule_of rules
-returns-in-BitNot g c before long meant =
+returns-in-BitNot c before long meant =
     let held = given c.args.entry c.in-BitNot.is c.requires.operands in
     one_enters held _ _ before meant _ _ _ Row.bit_not refl refl refl (λ n p le x. works_not _ _ _ le x x c.work.ensures)
 
 pub returns-in-Negate : goal.returns-in-Negate
 unfolding work_of rule_of rules
-returns-in-Negate g c before long meant =
+returns-in-Negate c before long meant =
     let held = given c.args.entry c.in-Negate.is c.requires.operands in
     one_enters held _ _ before meant _ _ _ (λ n. Row.negate n c.args.limit) refl refl refl c.negate.ensures
 
 pub returns-in-BitAnd : goal.returns-in-BitAnd
 unfolding work_of rule_of rules
-returns-in-BitAnd g c before long meant =
+returns-in-BitAnd c before long meant =
     let held = given c.args.entry c.in-BitAnd.is c.requires.operands in
     two_enter held _ _ before meant _ _ _ Row.bit_and refl refl refl
     (λ n p q le x y. works_and _ _ _ le x y c.work-in-BitAnd.ensures)
 
 pub returns-in-BitOr : goal.returns-in-BitOr
 unfolding work_of rule_of rules
-returns-in-BitOr g c before long meant =
+returns-in-BitOr c before long meant =
     let held = given c.args.entry c.in-BitOr.is c.requires.operands in
     two_enter held _ _ before meant _ _ _ Row.bit_or refl refl refl
     (λ n p q le x y. works_or _ _ _ le x y c.work-in-BitOr.ensures)
 
 pub returns-in-BitXor : goal.returns-in-BitXor
 unfolding work_of rule_of rules
-returns-in-BitXor g c before long meant =
+returns-in-BitXor c before long meant =
     let held = given c.args.entry c.in-BitXor.is c.requires.operands in
     two_enter held _ _ before meant _ _ _ Row.bit_xor refl refl refl
     (λ n p q le x y. works_xor _ _ _ le x y c.work-in-BitXor.ensures)
 
 pub returns-in-Add : goal.returns-in-Add
 unfolding work_of rule_of rules
-returns-in-Add g c before long meant =
+returns-in-Add c before long meant =
     let held = given c.args.entry c.in-Add.is c.requires.operands in
     two_enter held _ _ before meant _ _ _ (λ n. Row.add n c.args.limit) refl refl refl
     c.add.ensures
 
 pub returns-in-Multiply : goal.returns-in-Multiply
 unfolding work_of rule_of rules
-returns-in-Multiply g c before long meant =
+returns-in-Multiply c before long meant =
     let held = given c.args.entry c.in-Multiply.is c.requires.operands in
     two_enter held _ _ before meant _ _ _ (λ n. Row.multiply n c.args.limit) refl refl refl
     c.multiply.ensures
 
 pub returns-in-ShiftLeft : goal.returns-in-ShiftLeft
 unfolding work_of rule_of rules shift_by
-returns-in-ShiftLeft g c before long meant =
+returns-in-ShiftLeft c before long meant =
     let held = given c.args.entry c.in-ShiftLeft.is c.requires.operands in
     let whole : length c.args.v.x.bits ≡ 32 = search search_rules in
     moved held _ _ before meant (Row.shift_left (c.amount.result % c.args.entry.width)) _ _ refl refl
@@ -300,7 +300,7 @@ returns-in-ShiftLeft g c before long meant =
 
 pub returns-in-ShiftRight : goal.returns-in-ShiftRight
 unfolding work_of rule_of rules shift_by
-returns-in-ShiftRight g c before long meant =
+returns-in-ShiftRight c before long meant =
     let held = given c.args.entry c.in-ShiftRight.is c.requires.operands in
     let whole : length c.args.v.x.bits ≡ 32 = search search_rules in
     moved held _ _ before meant (Row.shift_right (c.amount-in-ShiftRight.result % c.args.entry.width)) _ _ refl refl
@@ -310,7 +310,7 @@ returns-in-ShiftRight g c before long meant =
 
 pub returns-in-Concat : goal.returns-in-Concat
 unfolding work_of rule_of rules
-returns-in-Concat g c before long meant =
+returns-in-Concat c before long meant =
     let held = given c.args.entry c.in-Concat.is c.requires.operands in
     let whole : length c.args.v.x.bits ≡ 32 = search search_rules in
     let whole_y : length c.args.v.y.bits ≡ 32 = search search_rules in
@@ -321,7 +321,7 @@ returns-in-Concat g c before long meant =
 
 pub returns-in-Extract : goal.returns-in-Extract
 unfolding work_of rule_of rules
-returns-in-Extract g c before long meant =
+returns-in-Extract c before long meant =
     let held = given c.args.entry c.in-Extract.is c.requires.operands in
     let whole : length c.args.v.x.bits ≡ 32 = search search_rules in
     moved held _ _ before meant (Row.extract c.upper.result c.lower.result) _ _ refl refl
@@ -331,7 +331,7 @@ returns-in-Extract g c before long meant =
 
 pub returns-in-ZeroExtend : goal.returns-in-ZeroExtend
 unfolding work_of rule_of rules
-returns-in-ZeroExtend g c before long meant =
+returns-in-ZeroExtend c before long meant =
     let held = given c.args.entry c.in-ZeroExtend.is c.requires.operands in
     let whole : length c.args.v.x.bits ≡ 32 = search search_rules in
     moved held _ _ before meant (Row.zero_extend c.args.entry.width) _ _ refl refl
@@ -341,7 +341,7 @@ returns-in-ZeroExtend g c before long meant =
 
 pub returns-in-SignExtend : goal.returns-in-SignExtend
 unfolding work_of rule_of rules
-returns-in-SignExtend g c before long meant =
+returns-in-SignExtend c before long meant =
     let held = given c.args.entry c.in-SignExtend.is c.requires.operands in
     let whole : length c.args.v.x.bits ≡ 32 = search search_rules in
     moved held _ _ before meant (Row.sign_extend c.args.entry.width) _ _ refl refl
@@ -351,54 +351,54 @@ returns-in-SignExtend g c before long meant =
 
 pub returns-in-Choose : goal.returns-in-Choose
 unfolding work_of rule_of rules
-returns-in-Choose g c before long meant =
+returns-in-Choose c before long meant =
     let held = given c.args.entry c.in-Choose.is c.requires.operands in
     choice_enters held _ _ before meant _ _ _ _ c.pair_of-must.ensures
     refl refl refl c.work-in-Choose.ensures
 
 pub returns-in-True : goal.returns-in-True
 unfolding work_of rule_of rules
-returns-in-True g c before long meant =
+returns-in-True c before long meant =
     let held = given c.args.entry c.in-True.is c.requires.operands in
     leaf_enters held _ _ before true _ refl refl c.requires.ready (rw c.still-in-True.ensures at c.judged.ensures)
 
 pub returns-in-False : goal.returns-in-False
 unfolding work_of rule_of rules
-returns-in-False g c before long meant =
+returns-in-False c before long meant =
     let held = given c.args.entry c.in-False.is c.requires.operands in
     leaf_enters held _ _ before false _ refl refl c.requires.ready (rw c.still-in-False.ensures at c.judged-in-False.ensures)
 
 pub returns-in-Equal : goal.returns-in-Equal
 unfolding work_of rule_of rules
-returns-in-Equal g c before long meant =
+returns-in-Equal c before long meant =
     let held = given c.args.entry c.in-Equal.is c.requires.operands in
     compared held _ _ before meant _ _ _ _ c.judged-in-Equal.ensures refl
     Formula.equal refl refl c.equal.ensures
 
 pub returns-in-AtMost : goal.returns-in-AtMost
 unfolding work_of rule_of rules
-returns-in-AtMost g c before long meant =
+returns-in-AtMost c before long meant =
     let held = given c.args.entry c.in-AtMost.is c.requires.operands in
     compared held _ _ before meant _ _ _ _ c.judged-in-AtMost.ensures refl
     (λ n. Formula.at_most n false) refl refl c.at_most.ensures
 
 pub returns-in-SignedAtMost : goal.returns-in-SignedAtMost
 unfolding work_of rule_of rules
-returns-in-SignedAtMost g c before long meant =
+returns-in-SignedAtMost c before long meant =
     let held = given c.args.entry c.in-SignedAtMost.is c.requires.operands in
     compared held _ _ before meant _ _ _ _ c.judged-in-SignedAtMost.ensures refl
     (λ n. Formula.at_most n true) refl refl c.at_most-in-SignedAtMost.ensures
 
 pub returns-in-Not : goal.returns-in-Not
 unfolding work_of rule_of rules
-returns-in-Not g c before long meant =
+returns-in-Not c before long meant =
     let held = given c.args.entry c.in-Not.is c.requires.operands in
     negated held _ _ before meant _ _ _ _ c.judged-in-Not.ensures refl
     _ c.pair_of.ensures refl refl c.negation.ensures
 
 pub returns-in-And : goal.returns-in-And
 unfolding work_of rule_of rules
-returns-in-And g c before long meant =
+returns-in-And c before long meant =
     let held = given c.args.entry c.in-And.is c.requires.operands in
     joined held _ _ before meant _ _ _ _ c.judged-in-And.ensures refl
     192 is_and (table_function 192 is_and and_table) _ _ c.pair_of-in-And.ensures c.pair_of-in-And-2.ensures
@@ -406,7 +406,7 @@ returns-in-And g c before long meant =
 
 pub returns-in-Or : goal.returns-in-Or
 unfolding work_of rule_of rules
-returns-in-Or g c before long meant =
+returns-in-Or c before long meant =
     let held = given c.args.entry c.in-Or.is c.requires.operands in
     joined held _ _ before meant _ _ _ _ c.judged-in-Or.ensures refl
     252 is_or (table_function 252 is_or or_table) _ _ c.pair_of-in-Or.ensures c.pair_of-in-Or-2.ensures
@@ -414,7 +414,7 @@ returns-in-Or g c before long meant =
 
 pub returns-in-Exists : goal.returns-in-Exists
 unfolding work_of rule_of rules
-returns-in-Exists g c before long meant =
+returns-in-Exists c before long meant =
     let held = given c.args.entry c.in-Exists.is c.requires.operands in
     chained held _ _ before meant _ _ _ _ c.judged-in-Exists.ensures refl
     false c.operand.result _ c.operand.ensures.sheet c.operand.ensures.index
@@ -422,7 +422,7 @@ returns-in-Exists g c before long meant =
 
 pub returns-in-ForAll : goal.returns-in-ForAll
 unfolding work_of rule_of rules
-returns-in-ForAll g c before long meant =
+returns-in-ForAll c before long meant =
     let held = given c.args.entry c.in-ForAll.is c.requires.operands in
     chained held _ _ before meant _ _ _ _ c.judged-in-ForAll.ensures refl
     true c.operand-in-ForAll.result _ c.operand-in-ForAll.ensures.sheet c.operand-in-ForAll.ensures.index

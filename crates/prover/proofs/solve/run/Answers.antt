@@ -8,12 +8,14 @@ use Rattle.prover.proofs.solve.run.Goals as goal
 pub loop-i-init : goal.loop-i-init
 loop-i-init c = going_start _ _ _ _ _ _ c.new-s.ensures c.new-at.ensures
 
-pub work-requires : goal.work-requires
-work-requires c =
+pub work-requires-clause-ready : goal.work-requires-clause-ready
+work-requires-clause-ready c = c.loop-i.invariant.after.ready
+
+pub work-requires-clause-operands : goal.work-requires-clause-operands
+work-requires-clause-operands c =
     let entry = c.entry-entry.ensures in
     let inside : c.loop-i.i < count c.args.sheet.bytes.now = omega (arith, c.loop-i-test.true, c.count-count.ensures.value) in
-    let operands = operands_held c.loop-i.invariant c.args.sheet.passed inside entry.sheet entry.index c.operands-v.ensures in
-    (omega arith, (c.loop-i.invariant.after.ready, (operands, omega arith)))
+    operands_held c.loop-i.invariant c.args.sheet.passed inside entry.sheet entry.index c.operands-v.ensures
 
 pub returns-in_err-made : goal.returns-in_err-made
 returns-in_err-made c =

@@ -4,19 +4,19 @@ use Rattle.term.proofs.Laws.Count.{told_few, walk_start, walk_next, told_counted
 use Rattle.term.proofs.add.walk.Goals as goal
 
 pub returns-then-b-limit : goal.returns-then-b-limit
-returns-then-b-limit g c = told_few c.requires.countable c.if-b-limit.true
+returns-then-b-limit c = told_few c.requires.countable c.if-b-limit.true
 
 pub loop-i-init : goal.loop-i-init
-loop-i-init g c = walk_start c.requires.countable c.clear.ensures
+loop-i-init c = walk_start c.requires.countable c.clear.ensures
 
 pub visit-nodes-requires : goal.visit-nodes-requires
-visit-nodes-requires g c = (omega arith, rw c.new.ensures (visit_room c.requires.countable c.loop-i-test.true c.requires.marks))
+visit-nodes-requires c = rw c.new.ensures (visit_room c.requires.countable c.loop-i-test.true c.loop-i.marks.enough)
 
 pub loop-i-preserved : goal.loop-i-preserved
-loop-i-preserved g c =
+loop-i-preserved c =
     walk_next c.requires.countable.laid.single c.loop-i.invariant c.loop-i-test.true (rw c.new.ensures at c.visit-nodes.ensures)
 
 pub returns : goal.returns
-returns g c =
+returns c =
     let end : c.loop-i.i ≡ c.args.k = omega (arith, c.loop-i.invariant.inside) in
     told_counted (rw end at c.loop-i.invariant)

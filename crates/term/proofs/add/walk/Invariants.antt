@@ -3,4 +3,4 @@ use Rattle.term.proofs.Laws.Count.{Walk}
 use Rattle.term.proofs.add.walk.Given as goal
 
 abbrev pub invariant-loop-i : goal.invariant-loop-i
-invariant-loop-i g l = Walk l.t l.fn.b.used l.fn.limit l.fn.bits l.fn.k l.marks l.nodes l.i
+invariant-loop-i l = Walk l.t l.fn.b.used l.fn.limit l.fn.bits l.fn.k l.marks.words.now l.nodes l.i
