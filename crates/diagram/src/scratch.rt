@@ -1,5 +1,5 @@
 //! The index by which a node is found, and the memo of steps: both in lent scratch of any length, none included.
-ghost use Rattle.std.specs.Prelude.{◌≡◌, ◌*◌, ◌<◌, ◌≤◌, length};
+ghost use Rattle.std.specs.Prelude.{◌≡◌, ◌+◌, ◌*◌, ◌<◌, ◌≤◌, length, set};
 
 use crate::hash::place;
 use crate::number::Diagram;
@@ -30,7 +30,7 @@ pub struct Key {
 impl<'a> Scratch<'a> {
     ghost use Rattle.std.specs.Prelude.{Option, IfSome};
     ghost use Rattle.diagram.specs.Table.{nodes_of, slot_as};
-    ghost use Rattle.diagram.specs.Scratch.{Covers, Finds, Passed, Recalled, home_of, key_of, noted};
+    ghost use Rattle.diagram.specs.Scratch.{Covers, Finds, Passed, Recalled, head_at, home_of, key_of, noted};
     ghost use Rattle.diagram.specs.State.{Ready};
 
     /// Scratch for an empty table, whatever stood in these words: an eighth of them are heads, an eighth links, as far as there
@@ -104,6 +104,18 @@ impl<'a> Scratch<'a> {
         Self::scan(t, covered, used, node)
     }
 
+    /// Slot k comes first in the chain of this head: its link is the old head.
+    pub fn link(&mut self, k: usize, head: usize)
+        requires slot { k < length self.old.heads.now }
+        requires head { head < length self.old.heads.now }
+        ensures links { self.new.links.now ≡ set self.old.links.now k (head_at self.old.heads.now head) }
+        ensures heads { self.new.heads.now ≡ set self.old.heads.now head (k + 1) }
+        ensures memo { self.new.memo.now ≡ self.old.memo.now }
+    {
+        self.links[k] = self.heads[head];
+        self.heads[head] = (k + 1) as u32;
+    }
+
     /// Slot k, a new one that holds this node, comes into the index, if it has a link.
     pub fn cover(&mut self, k: usize, node: Node)
         ensures index { Covers self.old.heads.now self.old.links.now k (slot_as node) self.new.heads.now self.new.links.now }
@@ -114,8 +126,7 @@ impl<'a> Scratch<'a> {
             return;
         }
         let head = Self::home(covered, node);
-        self.links[k] = self.heads[head];
-        self.heads[head] = (k + 1) as u32;
+        self.link(k, head);
     }
 
     /// What the memo is asked for an operation of three diagrams.

@@ -3,15 +3,15 @@ use Prim.Native.Nat.{ℕ, ◌+◌, ◌-◌, ◌*◌, ◌≤◌, ◌<◌}
 use native.Mathlib.Omega.{arith}
 use mathlib.Core.Path.{◌≡◌, refl, sym, ap, subst, ◌∙◌}
 use mathlib.Core.Bool.{Bool, true, false}
-use mathlib.Core.List.{List}
+use mathlib.Core.List.{List, [], ◌∷◌, ◌++◌}
 use lib.Dec.{ltb}
 use lib.ListN.{length}
-use borrow.Author.Tests.{ltb-true, ltb-false}
+use borrow.Author.Tests.{lt-ltb, le-ltb, ltb-true, ltb-false}
 use Rattle.meaning.specs.Diagram.{Tree, leaf, node}
-use Rattle.meaning.specs.Table.{Table, slot, enter}
+use Rattle.meaning.specs.Table.{Table, slot, enter, enter_all, count}
 use Rattle.meaning.specs.Lent.{node_at, low_of, high_of}
 use Rattle.meaning.proofs.Laws.Table.{slot_at, Is, Single, insert_ext, ext_length, is_one}
-use Rattle.meaning.proofs.Laws.Table.{enter_again, enter_grows}
+use Rattle.meaning.proofs.Laws.Table.{enter_again, enter_grows, enter_all_append}
 use Rattle.diagram.specs.Table.{Inside, nodes_of, node_of}
 use Rattle.diagram.specs.Count.{marked_at, marking, Counted, Tallied, Visitable, Visited}
 use Rattle.diagram.specs.declared.table.Node.{Node}
@@ -201,3 +201,26 @@ module _ {cells : List ℕ} {words n : ℕ} (visitable : Visitable cells words n
         falls = visitable.falls;
         inside = omega (arith, visitable.inside);
       }
+
+-- ---- what a caller learns
+
+-- one diagram more has been counted, or there is more to count than the limit: the test is the definition's
+pub count_next : {cells marks : List ℕ} {n so_far limit : ℕ} {after : List ℕ} {r room : ℕ} (used : ℕ) (ts : List Tree)
+    (x : Tree)
+    → Visited cells marks n so_far limit after r → Single (nodes_of cells used) → Is (nodes_of cells used) n x
+    → Counted room (nodes_of cells used) marks so_far (enter_all ts [])
+    → (ltb limit r ≡ ltb limit (count (ts ++ (x ∷ []))))
+    × (r ≤ limit → Counted room (nodes_of cells used) after r (enter_all (ts ++ (x ∷ [])) []))
+unfolding count
+count_next {cells} {limit = limit} {after = after} {r = r} {room = room} used ts x visited single is counted =
+    rw (enter_all_append ts (x ∷ []) []) (go (ltb limit r) refl, all.within)
+  where
+    all : Tallied room (nodes_of cells used) limit after r (enter x (enter_all ts [])).table
+    all = visited.tallied room used (enter_all ts []) x single is counted
+
+    go : (b : Bool) → ltb limit r ≡ b → b ≡ ltb limit (length (enter x (enter_all ts [])).table)
+    go true over = sym (lt-ltb limit _ (all.beyond (ltb-true limit r over)))
+    go false fits =
+        let within = ltb-false limit r fits in
+        let long = (all.within within).long in
+        sym (le-ltb limit _ (omega arith))
