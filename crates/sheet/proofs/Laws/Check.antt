@@ -47,7 +47,7 @@ module _ {s : List ℕ} {n i : ℕ} (left : Refused s n i) where
     refused_more none =
         record { whole = left.whole ∙ rw (rest_more s n i more, ← is, eq-eqb answer 0 none, add-one i) refl }
 
-    refused_stop : (answer ≡ 0 → ⊥) → answer ≡ entries_refusal (entries s) 0 (entries s)
+    pub refused_stop : (answer ≡ 0 → ⊥) → answer ≡ entries_refusal (entries s) 0 (entries s)
     refused_stop some = sym (left.whole ∙ rw (rest_more s n i more, ← is, ne_eqb answer 0 some) refl)
 
   -- what entry i refuses, as the code has it

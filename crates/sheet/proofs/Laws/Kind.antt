@@ -45,23 +45,29 @@ has_four_bytes none_wider n = true
 has_four_bytes alike n = true
 
 pub record Made (r : Rule) : Type 0 where
+  pub body_le : r.body ≤ 6
+  pub operands_le : length r.operands ≤ 3
   pub operands_in : 2 * length r.operands ≤ r.body
   pub looked_at_lem : looked_at r.widths ≤ length r.operands
   pub four_bytes : has_four_bytes r.widths r.body ≡ true
 
 abbrev made : Rule → Bool
 made r =
-    leb (2 * length r.operands) r.body
-    && (leb (looked_at r.widths) (length r.operands) && has_four_bytes r.widths r.body)
+    leb r.body 6 && (leb (length r.operands) 3 && (leb (2 * length r.operands) r.body
+    && (leb (looked_at r.widths) (length r.operands) && has_four_bytes r.widths r.body)))
 
 made_is : (r : Rule) → made r ≡ true → Made r
 made_is r all =
-    let one = (and-eq-true_iff (leb (2 * length r.operands) r.body) _).0 all in
-    let two = (and-eq-true_iff (leb (looked_at r.widths) (length r.operands)) _).0 one.1 in
+    let one = (and-eq-true_iff (leb r.body 6) _).0 all in
+    let two = (and-eq-true_iff (leb (length r.operands) 3) _).0 one.1 in
+    let three = (and-eq-true_iff (leb (2 * length r.operands) r.body) _).0 two.1 in
+    let four = (and-eq-true_iff (leb (looked_at r.widths) (length r.operands)) _).0 three.1 in
     record {
-      operands_in = leb-true (2 * length r.operands) r.body one.0;
-      looked_at_lem = leb-true (looked_at r.widths) (length r.operands) two.0;
-      four_bytes = two.1;
+      body_le = leb-true r.body 6 one.0;
+      operands_le = leb-true (length r.operands) 3 two.0;
+      operands_in = leb-true (2 * length r.operands) r.body three.0;
+      looked_at_lem = leb-true (looked_at r.widths) (length r.operands) four.0;
+      four_bytes = four.1;
     }
 
 pub rule_made : (k : ℕ) → Made (rule_of k)
