@@ -90,13 +90,12 @@ impl<'a> Sheet<'a> {
         ensures sheet { result.sheet.bytes.now ≡ self.entry.bytes.now }
         ensures index { result.index ≡ index }
     {
-        let kind = self.kind(index);
         Entry {
             sheet: self,
             index,
-            kind,
+            kind: self.kind(index),
             width: self.width(index),
-            body: read::part(self.bytes, index, usize::from(kind.rule().body)),
+            body: read::body(self.bytes, index),
         }
     }
 
