@@ -1,10 +1,11 @@
 //! The kinds of entries, and the short table of kinds: for each kind its sort, its body's length, what its operands have to be
 //! and how widths fit.
-ghost use Rattle.std.specs.Prelude.{◌≡◌};
+ghost use Rattle.std.specs.Prelude.{◌≡◌, slice_get};
+ghost use Rattle.std.specs.Option.{option_map};
 ghost use Rattle.meaning.specs.Kind.{rule_of};
 ghost use Rattle.meaning.specs.Level.{bits_of};
 ghost use Rattle.meaning.specs.Check.{is_formula};
-ghost use Rattle.sheet.specs.Kind.{number_of, sort_as, row_as, Decodes};
+ghost use Rattle.sheet.specs.Kind.{number_of, sort_as, need_as, row_as, Decodes};
 
 /// What an entry is: terms up to `Choose`, then formulas.
 #[derive(Clone, Copy, Debug, PartialEq, Eq)]
@@ -255,6 +256,13 @@ impl Kind {
         ensures { row_as self result ≡ rule_of (number_of self) }
     {
         RULES[self as usize]
+    }
+
+    /// What operand k has to be, or `None` where an entry of this kind has no operand k. A bound variable is operand 0.
+    pub fn need(self, k: usize) -> Option<Need>
+        ensures { option_map need_as result ≡ slice_get (rule_of (number_of self)).operands k }
+    {
+        self.rule().operands.get(k).copied()
     }
 
     /// How many levels an entry of this kind and width brings: the width, if it is a variable.

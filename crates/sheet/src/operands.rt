@@ -33,7 +33,7 @@ impl<'a> Entry<'a> {
         requires { k < length (rule_at self.sheet.bytes.now self.index).operands }
         ensures { need_as result ≡ need_at self.entry.sheet.bytes.now self.entry.index k }
     {
-        self.kind.rule().operands[k]
+        self.kind.need(k).unwrap()
     }
 
     // Operand k is below the entry and what it has to be.
