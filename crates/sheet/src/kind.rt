@@ -5,7 +5,7 @@ ghost use Rattle.std.specs.Option.{option_map};
 ghost use Rattle.meaning.specs.Kind.{rule_of};
 ghost use Rattle.meaning.specs.Level.{bits_of};
 ghost use Rattle.meaning.specs.Check.{is_formula};
-ghost use Rattle.sheet.specs.Kind.{number_of, sort_as, need_as, row_as, Decodes};
+ghost use Rattle.sheet.specs.Kind.{number_of, sort_as, need_as, fit_as, row_as, Decodes};
 
 /// What an entry is: terms up to `Choose`, then formulas.
 #[derive(Clone, Copy, Debug, PartialEq, Eq)]
@@ -263,6 +263,13 @@ impl Kind {
         ensures { option_map need_as result ≡ slice_get (rule_of (number_of self)).operands k }
     {
         self.rule().operands.get(k).copied()
+    }
+
+    // How the widths of an entry of this kind and its operands fit.
+    pub(crate) fn fit(self) -> Fit
+        ensures { fit_as result ≡ (rule_of (number_of self)).widths }
+    {
+        self.rule().widths
     }
 
     /// How many levels an entry of this kind and width brings: the width, if it is a variable.

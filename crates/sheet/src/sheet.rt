@@ -1,5 +1,6 @@
 //! A sheet that is laid out, and its entries: built once refusals 1, 2 and 3 are checked.
-ghost use Rattle.std.specs.Prelude.{◌≡◌, ◌<◌, ◌≤◌, IfOk, get_or};
+ghost use Rattle.std.specs.Prelude.{◌≡◌, ◌<◌, ◌≤◌, IfOk, IfSome, IfNone, get_or};
+ghost use Rattle.meaning.specs.Kind.{no_rule};
 ghost use Rattle.meaning.specs.Sheet.{count, record_at, rule_at, width_at, entries};
 ghost use Rattle.meaning.specs.Level.{levels};
 ghost use Rattle.sheet.specs.Kind.{number_of, sort_as};
@@ -28,6 +29,55 @@ pub struct Entry<'a> {
     pub width: u32,
     pub body: &'a [u8],
     pub ghost is_entry: { IsEntry sheet.bytes.now index kind width body.now },
+}
+
+// Entry `index` of a sheet that is laid out, whose kind is in the table. Unlike for an `Entry`, the other entries may be of any
+// kind, and no width need be allowed for its sort.
+#[derive(Clone, Copy)]
+pub(crate) struct Placed<'a> {
+    pub bytes: &'a [u8],
+    pub index: usize,
+    pub kind: Kind,
+    pub width: u32,
+    pub body: &'a [u8],
+    pub ghost is_laid_out: { Laid bytes.now },
+    pub ghost is_entry: { IsEntry bytes.now index kind width body.now },
+}
+
+impl<'a> Placed<'a> {
+    // Entry i of the sheet in these bytes, or `None` where the table has no such kind.
+    pub(crate) fn of(s: &'a [u8], i: usize) -> Option<Placed<'a>>
+        requires laid { Laid s.now }
+        requires inside { i < count s.now }
+        ensures none { IfNone result (rule_at s.now i ≡ no_rule) }
+        ensures bytes { IfSome result (λ entry. entry.bytes.now ≡ s.now) }
+        ensures index { IfSome result (λ entry. entry.index ≡ i) }
+    {
+        let kind = read::kind(s, i)?;
+        Some(Placed {
+            bytes: s,
+            index: i,
+            kind,
+            width: read::width(s, i),
+            body: read::body(s, i),
+        })
+    }
+}
+
+impl<'a> Entry<'a> {
+    // The entry, without what its sheet says of the others.
+    pub(crate) fn placed(self) -> Placed<'a>
+        ensures bytes { result.bytes.now ≡ self.entry.sheet.bytes.now }
+        ensures index { result.index ≡ self.entry.index }
+    {
+        Placed {
+            bytes: self.sheet.bytes,
+            index: self.index,
+            kind: self.kind,
+            width: self.width,
+            body: self.body,
+        }
+    }
 }
 
 impl<'a> Sheet<'a> {

@@ -1,18 +1,26 @@
 //! Refusals 5 and 6 of one entry whose operands fit.
 ghost use Rattle.std.specs.Prelude.{◌≡◌, ◌&&◌, ◌+◌, ◌-◌, ◌^◌, ◌≤◌, ◌<◌, eqb, ltb, leb, length, get_or, true};
-ghost use Rattle.meaning.specs.Sheet.{rule_at};
+ghost use Rattle.meaning.specs.Sheet.{count, rule_at};
 ghost use Rattle.sheet.specs.Kind.{fit_as};
+ghost use Rattle.sheet.specs.Laid.{Laid};
 ghost use Rattle.sheet.specs.Entry.{operands_fit_at, operand_width_at, own_width_at, own_widths_at, widths_fit_at, in_range_at};
 
 use crate::kind::{Fit, Need};
-use crate::read::{constant, lower, operand, upper};
-use crate::sheet::Entry;
+use crate::read::{constant, lower, operand, upper, width};
+use crate::sheet::{Entry, Placed};
 
 /// An entry whose operands are below it and what they have to be.
 #[derive(Clone, Copy)]
 pub struct Suited<'a> {
     pub own: Entry<'a>,
     pub ghost fit: { operands_fit_at own.sheet.bytes.now own.index ≡ true },
+}
+
+// The same of an entry in any sheet that is laid out.
+#[derive(Clone, Copy)]
+struct Fitted<'a> {
+    own: Placed<'a>,
+    ghost fit: { operands_fit_at own.bytes.now own.index ≡ true },
 }
 
 // Extract's width is u − l + 1, and u isn't below l.
@@ -35,40 +43,59 @@ fn below_power(value: u32, w: u32) -> bool
     u64::from(value) < power
 }
 
-impl<'a> Entry<'a> {
-    /// How the widths of the entry and its operands fit.
-    pub fn fit(self) -> Fit
-        ensures { fit_as result ≡ (rule_at self.entry.sheet.bytes.now self.entry.index).widths }
-    {
-        self.kind.rule().widths
+/// 5: the widths of entry i, whose operands fit, and of its operands fit. Nothing is asked where its kind isn't in the table.
+/// Plain bytes, and no `Suited`, as for `operands_fit`.
+pub fn widths_fit(s: &[u8], i: usize) -> bool
+    requires laid { Laid s.now }
+    requires inside { i < count s.now }
+    requires fit { operands_fit_at s.now i ≡ true }
+    ensures { result ≡ widths_fit_at s.now i }
+{
+    match Placed::of(s, i) {
+        Some(own) => Fitted { own }.widths_fit(),
+        None => true,
     }
 }
 
-impl<'a> Suited<'a> {
+/// 6: the constant that entry i is isn't too large, and an extract's u lies inside the operand; its operands fit.
+/// Plain bytes, and no `Suited`, as for `operands_fit`.
+pub fn in_range(s: &[u8], i: usize) -> bool
+    requires laid { Laid s.now }
+    requires inside { i < count s.now }
+    requires fit { operands_fit_at s.now i ≡ true }
+    ensures { result ≡ in_range_at s.now i }
+{
+    match Placed::of(s, i) {
+        Some(own) => Fitted { own }.in_range(),
+        None => true,
+    }
+}
+
+impl<'a> Fitted<'a> {
     // The width of operand k.
     fn operand_width(self, k: usize) -> u32
-        requires { k < length (rule_at self.own.sheet.bytes.now self.own.index).operands }
-        ensures value { result ≡ operand_width_at self.entry.own.sheet.bytes.now self.entry.own.index k }
+        requires { k < length (rule_at self.own.bytes.now self.own.index).operands }
+        ensures value { result ≡ operand_width_at self.entry.own.bytes.now self.entry.own.index k }
         ensures few { result ≤ 32 }
     {
-        self.own.sheet.width(operand(self.own.body, k))
+        width(self.own.bytes, operand(self.own.body, k))
     }
 
     // Operand k, if it is a term, has the entry's own width.
     fn own_width(self, k: usize) -> bool
-        requires { k < length (rule_at self.own.sheet.bytes.now self.own.index).operands }
-        ensures { result ≡ own_width_at self.entry.own.sheet.bytes.now self.entry.own.index k }
+        requires { k < length (rule_at self.own.bytes.now self.own.index).operands }
+        ensures { result ≡ own_width_at self.entry.own.bytes.now self.entry.own.index k }
     {
-        self.own.need(k) != Need::ATerm || self.operand_width(k) == self.own.width
+        self.own.kind.need(k) != Some(Need::ATerm) || self.operand_width(k) == self.own.width
     }
 
     // Every operand that is a term has the entry's own width.
     #[tactic(auto, using(crate::proofs::Laws::Widths::own_begin))]
     fn own_widths(self) -> bool
-        ensures { result ≡ own_widths_at self.entry.own.sheet.bytes.now self.entry.own.index }
+        ensures { result ≡ own_widths_at self.entry.own.bytes.now self.entry.own.index }
     {
         // a `for`: a chain (`all` over the places) proves only with a lemma on its runs, and is no plainer
-        for k in 0..self.own.operand_count() {
+        for k in 0..self.own.kind.rule().operands.len() {
             if !self.own_width(k) {
                 return false;
             }
@@ -76,12 +103,12 @@ impl<'a> Suited<'a> {
         true
     }
 
-    /// 5: the widths fit.
-    pub fn widths_fit(self) -> bool
-        ensures { result ≡ widths_fit_at self.entry.own.sheet.bytes.now self.entry.own.index }
+    // The widths fit.
+    fn widths_fit(self) -> bool
+        ensures { result ≡ widths_fit_at self.entry.own.bytes.now self.entry.own.index }
     {
         let w = self.own.width;
-        match self.own.fit() {
+        match self.own.kind.fit() {
             Fit::Any | Fit::Below => true,
             Fit::Equal => self.own_widths(),
             Fit::Sum => w == self.operand_width(0) + self.operand_width(1),
@@ -91,12 +118,12 @@ impl<'a> Suited<'a> {
         }
     }
 
-    /// 6: the constant isn't too large, and an extract's u lies inside the operand.
-    pub fn in_range(self) -> bool
-        ensures { result ≡ in_range_at self.entry.own.sheet.bytes.now self.entry.own.index }
+    // The constant isn't too large, and an extract's u lies inside the operand.
+    fn in_range(self) -> bool
+        ensures { result ≡ in_range_at self.entry.own.bytes.now self.entry.own.index }
     {
         let w = self.own.width;
-        match self.own.fit() {
+        match self.own.kind.fit() {
             Fit::Below => below_power(constant(self.own.body), w),
             Fit::Span => {
                 let first = self.operand_width(0);
@@ -104,5 +131,36 @@ impl<'a> Suited<'a> {
             }
             _ => true,
         }
+    }
+}
+
+impl<'a> Entry<'a> {
+    /// How the widths of the entry and its operands fit.
+    pub fn fit(self) -> Fit
+        ensures { fit_as result ≡ (rule_at self.entry.sheet.bytes.now self.entry.index).widths }
+    {
+        self.kind.fit()
+    }
+}
+
+impl<'a> Suited<'a> {
+    /// 5: the widths fit.
+    pub fn widths_fit(self) -> bool
+        ensures { result ≡ widths_fit_at self.entry.own.sheet.bytes.now self.entry.own.index }
+    {
+        Fitted {
+            own: self.own.placed(),
+        }
+        .widths_fit()
+    }
+
+    /// 6: the constant isn't too large, and an extract's u lies inside the operand.
+    pub fn in_range(self) -> bool
+        ensures { result ≡ in_range_at self.entry.own.sheet.bytes.now self.entry.own.index }
+    {
+        Fitted {
+            own: self.own.placed(),
+        }
+        .in_range()
     }
 }

@@ -8,15 +8,15 @@ use lib.ListN.{length}
 use native.Mathlib.Nat.{add-zero, zero-add}
 use native.Mathlib.Omega.{arith}
 use borrow.Author.Tests.{ltb-true}
-use Rattle.meaning.specs.Kind.{Operand, a_term, a_formula, a_variable}
+use Rattle.meaning.specs.Kind.{Rule, rule_of, Operand, a_term, a_formula, a_variable}
 use Rattle.meaning.specs.Sheet.{Entry, count, pair_at, rule_at, width_at, entry_at, entries, entry, operand}
 use Rattle.meaning.specs.Check.{suits, operands_fit, width_of, own_width}
 use Rattle.sheet.specs.declared.kind.Kind.{Kind}
 use Rattle.sheet.specs.declared.kind.Fit.{Fit}
-use Rattle.sheet.specs.Kind.{fit_as}
+use Rattle.sheet.specs.Kind.{number_of, fit_as}
 use Rattle.sheet.specs.Laid.{Laid, IsEntry}
 use Rattle.sheet.proofs.Laws.Kind.{looked_at, has_four_bytes}
-use Rattle.sheet.proofs.Laws.Sheet.{entry_at_lem, row_made, entry_length}
+use Rattle.sheet.proofs.Laws.Sheet.{entry_at_lem, row_made, entry_rule, entry_length}
 use Rattle.sheet.proofs.Laws.Operands.{all_from, Left}
 
 -- ---- operands that fit are below their entry
@@ -49,6 +49,11 @@ pub own_begin : (es : List Entry) (e : Entry) (os : List Operand) → Left (owns
 own_begin es e os = record { so_far = own_all es e 0 os }
 
 -- ---- an entry, as the code reads it
+
+-- how its widths fit is its kind's
+pub entry_widths : {s b : List ℕ} {i w : ℕ} {kind : Kind} → IsEntry s i kind w b →
+    (rule_of (number_of kind)).widths ≡ (rule_at s i).widths
+entry_widths at = ap (λ (r : Rule). r.widths) (entry_rule at)
 
 -- how many operands a way of fitting looks at, and how long the body is
 module _ {s b : List ℕ} {i w : ℕ} {kind : Kind} (at : IsEntry s i kind w b) (fit : Fit) {found : Fit} (is : found ≡ fit)
