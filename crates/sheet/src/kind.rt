@@ -38,6 +38,9 @@ pub enum Kind {
     ForAll,
 }
 
+/// The number of the one kind whose sort is `Variable`: where only this is asked, no kind need be made of a number.
+pub const VARIABLE_NUMBER: u8 = 1;
+
 /// What sort of thing an entry is. A variable is a term too.
 #[derive(Clone, Copy, Debug, PartialEq, Eq)]
 pub enum Sort {

@@ -6,17 +6,21 @@ ghost use Rattle.meaning.specs.Level.{variable_bits, level, levels};
 ghost use Rattle.sheet.specs.Laid.{Laid};
 ghost use Rattle.sheet.specs.Level.{ahead, before};
 
-use crate::read::{count, kind, width};
+use crate::kind::VARIABLE_NUMBER;
+use crate::read::{count, number, width};
 
 /// How many levels entry j brings: its width, if it is a variable.
+// Asked of the number alone, and no kind is made of it: `level` and `levels` go over all entries at each call.
+#[tactic(auto, using(crate::proofs::Laws::Level::bits_none, crate::proofs::Laws::Level::bits_some))]
 pub fn bits_of(s: &[u8], j: usize) -> u32
     requires { record_at (j + 1) ≤ length s.now }
     ensures value { result ≡ variable_bits (entry_at s.now j) }
     ensures small { result < 256 }
 {
-    match kind(s, j) {
-        Some(kind) => kind.bits(width(s, j)),
-        None => 0,
+    if number(s, j) == VARIABLE_NUMBER {
+        width(s, j)
+    } else {
+        0
     }
 }
 

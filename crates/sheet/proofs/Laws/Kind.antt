@@ -1,12 +1,13 @@
--- What holds of every row of the kind table, by a test that is computed over all of them (rule_made).
+-- What holds of every row of the kind table, by a test that is computed over all of them (rule_made), and which row is the
+-- variable's (variable_sort, other_sort_lem).
 use Prim.Native.Nat.{ℕ, ◌*◌, ◌≤◌}
-use mathlib.Core.Path.{◌≡◌, refl}
-use mathlib.Core.Bool.{Bool, true, false, cond, ◌&&◌, and-eq-true_iff}
+use mathlib.Core.Path.{◌≡◌, refl, sym}
+use mathlib.Core.Bool.{Bool, true, false, cond, ◌&&◌, and-eq-true_iff, false≢true}
 use mathlib.Core.List.{List, [], ◌∷◌}
 use lib.Dec.{eqb, leb}
-use lib.ListN.{length}
-use borrow.Author.Tests.{leb-true}
-use Rattle.meaning.specs.Kind.{Widths, any, below, sum, span, none_wider, alike}
+use lib.ListN.{length, drop}
+use borrow.Author.Tests.{leb-true, ne_eqb}
+use Rattle.meaning.specs.Kind.{Sort, Widths, any, below, sum, span, none_wider, alike}
 use Rattle.meaning.specs.Kind.{Rule, rules, row_of, rule_of, no_rule}
 
 abbrev every : (Rule → Bool) → List Rule → Bool
@@ -73,3 +74,23 @@ made_is r all =
 pub rule_made : (k : ℕ) → Made (rule_of k)
 unfolding rule_of rules
 rule_made k = made_is (row_of k rules) (rows_every made k rules refl refl)
+
+-- ---- the variable's row
+
+-- number 1 is the variable's, and no other row has its sort
+pub variable_sort : (k : ℕ) → k ≡ 1 → (rule_of k).sort ≡ Sort.variable
+unfolding rule_of rules
+variable_sort k one = rw one refl
+
+abbrev other_sort : Sort → Bool
+other_sort Sort.variable = false
+other_sort Sort.term = true
+other_sort Sort.formula = true
+other_sort Sort.neither = true
+
+pub other_sort_lem : (k : ℕ) → (k ≡ 1 → ⊥) → (rule_of k).sort ≡ Sort.variable → ⊥
+unfolding rule_of rules
+other_sort_lem k other is =
+    let later : other_sort (row_of k (drop 1 rules)).sort ≡ true = rows_every (λ (r : Rule). other_sort r.sort) k (drop 1 rules) refl refl in
+    let whole : other_sort (rule_of k).sort ≡ true = rw (ne_eqb 1 k (λ q. other (sym q))) later in
+    false≢true (rw is at whole)

@@ -1,20 +1,21 @@
 -- A level is a count: the level of a bit is the number of bits that come before it (before_level), and the number of
 -- levels is the number of bits that come before bit 32 (before_levels).
 use Prim.Native.Nat.{ℕ, zero, suc, ◌+◌, ◌≤◌, ◌<◌}
-use mathlib.Core.Path.{◌≡◌, refl, ap, ap₂, ◌∙◌}
+use mathlib.Core.Path.{◌≡◌, refl, sym, ap, ap₂, ◌∙◌}
 use mathlib.Core.Bool.{Bool, true, false, cond, and-false}
 use mathlib.Core.List.{List, [], ◌∷◌, ◌++◌}
 use lib.Dec.{eqb, ltb, leb}
-use lib.ListN.{length, length-append}
+use lib.ListN.{length, get_or, length-append}
 use native.Mathlib.Numerals.{add-one}
 use native.Mathlib.Omega.{arith}
 use borrow.Author.Tests.{ltb-true, ltb-false, leb-true, eqb-true, eqb-false}
 use borrow.Author.Tests.{lt-ltb, le-ltb, le-leb, lt-leb, eq-eqb, ne_eqb}
 use Rattle.meaning.specs.Kind.{Sort}
-use Rattle.meaning.specs.Sheet.{Entry, count, rule_at, width_at, entry_at, entries, entry}
+use Rattle.meaning.specs.Sheet.{Entry, count, record_at, rule_at, width_at, entry_at, entries, entry}
 use Rattle.meaning.specs.Level.{Spot, bits_of, variable_bits, having, order_from, order, find, level, levels}
 use Rattle.sheet.specs.Laid.{Laid}
 use Rattle.sheet.specs.Level.{ahead, before}
+use Rattle.sheet.proofs.Laws.Kind.{variable_sort, other_sort_lem}
 use Rattle.sheet.proofs.Laws.Sheet.{entry_at_lem, rest, rest_begin, rest_more, rest_end}
 
 abbrev spot : ℕ → ℕ → Spot
@@ -172,6 +173,22 @@ pub before_level : (es : List Entry) (i b : ℕ) → b < variable_bits (entry es
 unfolding level order
 before_level es i b has narrow =
     omega (arith, before_split i b 0 es, find_order i b 0 32 es has (omega arith) (omega arith), low_zero es)
+
+-- ---- the levels that an entry brings, by its kind's number
+
+bits_other : (sort : Sort) (w : ℕ) → (sort ≡ Sort.variable → ⊥) → 0 ≡ bits_of sort w
+bits_other Sort.variable w other = absurd (other refl)
+bits_other Sort.term w other = refl
+bits_other Sort.formula w other = refl
+bits_other Sort.neither w other = refl
+
+module _ (s : List ℕ) (j k : ℕ) (is : k ≡ get_or s (record_at j) 0) where
+  pub bits_none : (k ≡ 1 → ⊥) → 0 ≡ variable_bits (entry_at s j)
+  bits_none other =
+      bits_other (rule_at s j).sort (width_at s j) (other_sort_lem (get_or s (record_at j) 0) (λ q. other (is ∙ q)))
+
+  pub bits_some : (w : ℕ) → k ≡ 1 → w ≡ width_at s j → w ≡ variable_bits (entry_at s j)
+  bits_some w one is_w = rw (variable_sort (get_or s (record_at j) 0) (sym is ∙ one)) is_w
 
 -- ---- the loop of `before`
 
