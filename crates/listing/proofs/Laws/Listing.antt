@@ -27,7 +27,17 @@ module _ (v : ℕ) where
 
 -- ---- the listing
 
-regroup : (a v m y u e : List ℕ) → (((((a ++ v) ++ m) ++ y) ++ u) ++ e) ≡ a ++ (v ++ m ++ y ++ u ++ e)
+-- what a sheet that is not refused lists before the values
+abbrev pub judged : ℕ → ℕ → ℕ → ℕ → ℕ → List ℕ
+judged number verdict must may used =
+    number_line (text "answer ") number
+    ++ (verdict_line verdict
+    ++ (number_line (text "must ") must ++ (number_line (text "may ") may ++ number_line (text "slots ") used)))
+
+in_turn : (a v m y u : List ℕ) → ((((a ++ v) ++ m) ++ y) ++ u) ≡ a ++ (v ++ (m ++ (y ++ u)))
+in_turn a v m y u = simp append_assoc
+
+regroup : (a v m y u e : List ℕ) → (a ++ (v ++ (m ++ (y ++ u)))) ++ e ≡ a ++ (v ++ m ++ y ++ u ++ e)
 regroup a v m y u e = simp append_assoc
 
 module _ (s a : List ℕ) (number verdict must may used : ℕ) where
@@ -38,8 +48,7 @@ module _ (s a : List ℕ) (number verdict must may used : ℕ) where
       rw (ne_eqb number 0 refused) (answer ∙ sym (append-nil (number_line (text "answer ") number)))
 
   shape : (sat : Bool) → number ≡ 0 → eqb verdict 1 ≡ sat →
-      ((((number_line (text "answer ") number ++ verdict_line verdict) ++ number_line (text "must ") must)
-      ++ number_line (text "may ") may) ++ number_line (text "slots ") used) ++ cond sat (value_lines s a) []
+      judged number verdict must may used ++ cond sat (value_lines s a) []
       ≡ listed number verdict must may used (entries s) (assignment a)
   unfolding listed number_line verdict_line digits value_lines
   shape sat good is =
@@ -49,11 +58,13 @@ module _ (s a : List ℕ) (number verdict must may used : ℕ) where
 
   module _ {none one two three four five : List ℕ} (good : number ≡ 0)
       (empty : none ≡ []) (answered : one ≡ none ++ number_line (text "answer ") number)
-      (judged : two ≡ one ++ verdict_line verdict) (held : three ≡ two ++ number_line (text "must ") must)
+      (said : two ≡ one ++ verdict_line verdict) (held : three ≡ two ++ number_line (text "must ") must)
       (allowed : four ≡ three ++ number_line (text "may ") may) (counted : five ≡ four ++ number_line (text "slots ") used) where
-    lines : five ≡ (((number_line (text "answer ") number ++ verdict_line verdict) ++ number_line (text "must ") must)
-        ++ number_line (text "may ") may) ++ number_line (text "slots ") used
-    lines = rw (counted, allowed, held, judged, answered, empty) refl
+    lines : five ≡ judged number verdict must may used
+    lines =
+        rw (counted, allowed, held, said, answered, empty)
+        (in_turn (number_line (text "answer ") number) (verdict_line verdict) (number_line (text "must ") must)
+        (number_line (text "may ") may) (number_line (text "slots ") used))
 
     pub listed_judged : (verdict ≡ 1 → ⊥) → five ≡ listed number verdict must may used (entries s) (assignment a)
     listed_judged other = sym (append-nil five) ∙ ap (λ (l : List ℕ). l ++ []) lines ∙ shape false good (ne_eqb verdict 1 other)
