@@ -19,7 +19,7 @@ use Rattle.meaning.specs.Program.{listed, listing, must_witness}
 use Rattle.meaning.proofs.Laws.Solve.{solve_answer}
 use Rattle.meaning.proofs.Demands.{table_one}
 use Rattle.sheet.specs.declared.check.Refusal.TheVariants.{Short, Kinds, Places, Operands, Widths, Range, Levels, Term}
-use Rattle.prover.specs.Answer.{answer_of, number_of, Meets}
+use Rattle.prover.specs.Answer.{answer_of, number_of, numbers_of, Meets}
 use Rattle.prover.specs.declared.answer.Numbers.{Numbers}
 use Rattle.prover.specs.declared.answer.Refusal.{Refusal}
 use Rattle.prover.specs.declared.answer.Refusal.TheVariants as Cause
@@ -80,11 +80,10 @@ refused Cause.NoRoom none = omega arith
 abbrev lines : List ℕ → Numbers → Assignment → List ℕ
 lines s m ρ = listed m.number m.verdict m.must m.may m.used (entries s) ρ
 
-module _ {s t : List ℕ} {n : Numbers} where
-  pub number_checked : {a : Result Solved Refusal} → Answered s a t → n ≡ answer_of a → n.number ≡ 0 → check s ≡ 0
-  number_checked answered is none =
-      solved_checked s (sym (ap (λ (m : Numbers). m.number) (is ∙ answered.numbers)) ∙ none)
+pub number_checked : (s : List ℕ) (n : Numbers) → n ≡ numbers_of (solved_here s) → n.number ≡ 0 → check s ≡ 0
+number_checked s n is none = solved_checked s (sym (ap (λ (m : Numbers). m.number) is) ∙ none)
 
+module _ {s t : List ℕ} {n : Numbers} where
   pub listing_answered : {bytes x : List ℕ} (a : Result Solved Refusal) → Answered s a t → n ≡ answer_of a → MustWitness t a bytes →
       x ≡ lines s n (assignment bytes) → x ≡ listing s
   unfolding listing solved_here
