@@ -2,6 +2,7 @@
 pub mod Decimal
 pub mod Value
 pub mod Entry
+pub mod Written
 pub mod Listing
 pub mod Answered
 pub mod Input

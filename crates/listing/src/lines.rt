@@ -4,8 +4,9 @@ ghost use Rattle.meaning.specs.Kind.{a_variable};
 ghost use Rattle.meaning.specs.Sheet.{count, rule_at};
 ghost use Rattle.meaning.specs.Check.{suits};
 ghost use Rattle.listing.specs.Pieces.{entry_text, value_lines};
+ghost use Rattle.listing.specs.Written.{Written};
 
-use crate::text::Page;
+use crate::text::{Page, put};
 use crate::value::Values;
 use sheet::kind::Sort;
 use sheet::read::{count, kind};
@@ -48,4 +49,16 @@ pub fn put_entries<const N: usize>(values: Values, page: &mut Page<N>)
     for i in 0..count(values.sheet) {
         put_entry(values, page, i);
     }
+}
+
+/// The same lines, into a lent buffer from `at` on. Gives where they end.
+pub fn put_entries_at(values: Values, out: &mut [u8], at: usize) -> usize
+    requires room { at + 8704 ≤ length out.old }
+    ensures text { Written out.old at out.new result
+        (value_lines values.entry.sheet.now values.entry.assignment.now) }
+    ensures short { result ≤ at + 8704 }
+{
+    let mut page = Page::<8704>::new();
+    put_entries(values, &mut page);
+    put(out, at, page.as_bytes())
 }

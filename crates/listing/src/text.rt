@@ -1,6 +1,8 @@
-//! The page that a listing is written on. Each piece of text is appended to what stands there.
+//! The page that a listing is written on. Each piece of text is appended to what stands there. And the same pieces put into a lent
+//! buffer, of any length, from any place on.
 ghost use Rattle.std.specs.Prelude.{◌≡◌, ◌+◌, ◌≤◌, [], ◌++◌, length};
 ghost use Rattle.listing.specs.Pieces.{digits, number_line, verdict_line};
+ghost use Rattle.listing.specs.Written.{Written};
 
 use arrayvec::ArrayVec;
 use itoa::Buffer;
@@ -83,4 +85,48 @@ impl<const N: usize> Page<N> {
             _ => self.put(b"verdict unknown\n"),
         }
     }
+}
+
+/// Some bytes, into a lent buffer from `at` on. Gives where they end, as the next ones do.
+pub fn put(out: &mut [u8], at: usize, text: &[u8]) -> usize
+    requires { at + length text.now ≤ length out.old }
+    ensures { Written out.old at out.new result text.now }
+{
+    let end = at + text.len();
+    out[at..end].copy_from_slice(text);
+    end
+}
+
+/// A number in decimal, with no zeros in front.
+pub fn put_decimal(out: &mut [u8], at: usize, n: u32) -> usize
+    requires { at + 10 ≤ length out.old }
+    ensures text { Written out.old at out.new result (digits n) }
+    ensures short { result ≤ at + 10 }
+{
+    let mut page = Page::<10>::new();
+    page.put_decimal(n);
+    put(out, at, page.as_bytes())
+}
+
+/// A word with its space, a number, the end of the line.
+#[tactic(auto, unfolding(crate::specs::Pieces::number_line), using(crate::proofs::Laws::Written::written_then))]
+pub fn put_line(out: &mut [u8], at: usize, word: &[u8], n: u32) -> usize
+    requires { at + length word.now + 11 ≤ length out.old }
+    ensures text { Written out.old at out.new result (number_line word.now n) }
+    ensures short { result ≤ at + length word.now + 11 }
+{
+    let number = put(out, at, word);
+    let end = put_decimal(out, number, n);
+    put(out, end, b"\n")
+}
+
+/// The verdict's line: 1 is sat, 2 unsat, any other number unknown.
+pub fn put_verdict(out: &mut [u8], at: usize, verdict: u32) -> usize
+    requires { at + 16 ≤ length out.old }
+    ensures text { Written out.old at out.new result (verdict_line verdict) }
+    ensures short { result ≤ at + 16 }
+{
+    let mut page = Page::<16>::new();
+    page.put_verdict(verdict);
+    put(out, at, page.as_bytes())
 }
