@@ -51,7 +51,8 @@ pub fn put_entries<const N: usize>(values: Values, page: &mut Page<N>)
     }
 }
 
-/// The same lines, into a lent buffer from `at` on. Gives where they end.
+/// Puts the same lines into a lent buffer, from `at` on, and gives the place behind them.
+// By way of a page, on the stack, so that the lines are made in one place.
 pub fn put_entries_at(values: Values, out: &mut [u8], at: usize) -> usize
     requires room { at + 8704 ≤ length out.old }
     ensures text { Written out.old at out.new result

@@ -1,5 +1,5 @@
-//! The page that a listing is written on. Each piece of text is appended to what stands there. And the same pieces put into a lent
-//! buffer, of any length, from any place on.
+//! The page that a listing is written on: each piece of text is appended to what stands there. And the same pieces put into a lent
+//! buffer of any length, from a place in it on.
 ghost use Rattle.std.specs.Prelude.{◌≡◌, ◌+◌, ◌≤◌, [], ◌++◌, length};
 ghost use Rattle.listing.specs.Pieces.{digits, number_line, verdict_line};
 ghost use Rattle.listing.specs.Written.{Written};
@@ -87,7 +87,7 @@ impl<const N: usize> Page<N> {
     }
 }
 
-/// Some bytes, into a lent buffer from `at` on. Gives where they end, as the next ones do.
+/// Puts some bytes into a lent buffer, from `at` on, and gives the place behind them.
 pub fn put(out: &mut [u8], at: usize, text: &[u8]) -> usize
     requires { at + length text.now ≤ length out.old }
     ensures { Written out.old at out.new result text.now }
@@ -97,7 +97,7 @@ pub fn put(out: &mut [u8], at: usize, text: &[u8]) -> usize
     end
 }
 
-/// A number in decimal, with no zeros in front.
+/// Puts a number in decimal, with no zeros in front, and gives the place behind it.
 pub fn put_decimal(out: &mut [u8], at: usize, n: u32) -> usize
     requires { at + 10 ≤ length out.old }
     ensures text { Written out.old at out.new result (digits n) }
@@ -108,7 +108,8 @@ pub fn put_decimal(out: &mut [u8], at: usize, n: u32) -> usize
     put(out, at, page.as_bytes())
 }
 
-/// A word with its space, a number, the end of the line.
+/// Puts a word with its space, a number and the end of the line, and gives the place behind them.
+// By pieces, and not by way of a page: the word has any length.
 #[tactic(auto, unfolding(crate::specs::Pieces::number_line), using(crate::proofs::Laws::Written::written_then))]
 pub fn put_line(out: &mut [u8], at: usize, word: &[u8], n: u32) -> usize
     requires { at + length word.now + 11 ≤ length out.old }
@@ -120,7 +121,7 @@ pub fn put_line(out: &mut [u8], at: usize, word: &[u8], n: u32) -> usize
     put(out, end, b"\n")
 }
 
-/// The verdict's line: 1 is sat, 2 unsat, any other number unknown.
+/// Puts the verdict's line, 1 is sat, 2 unsat, any other number unknown, and gives the place behind it.
 pub fn put_verdict(out: &mut [u8], at: usize, verdict: u32) -> usize
     requires { at + 16 ≤ length out.old }
     ensures text { Written out.old at out.new result (verdict_line verdict) }
