@@ -17,7 +17,7 @@ pub struct Marks<'a> {
 }
 
 impl<'a> Marks<'a> {
-    /// Marks in these words. They may be more than the largest table needs.
+    /// Marks in these words, `TABLE_WORDS` of them or more.
     pub fn new(words: &'a mut [u32]) -> Marks<'a>
         requires { 1048576 ≤ 32 * length words.old }
         ensures { result.words.now ≡ words.old }

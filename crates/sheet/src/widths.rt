@@ -148,19 +148,15 @@ impl<'a> Suited<'a> {
     pub fn widths_fit(self) -> bool
         ensures { result ≡ widths_fit_at self.entry.own.sheet.bytes.now self.entry.own.index }
     {
-        Fitted {
-            own: self.own.placed(),
-        }
-        .widths_fit()
+        let own = self.own.placed();
+        Fitted { own }.widths_fit()
     }
 
     /// 6: the constant isn't too large, and an extract's u lies inside the operand.
     pub fn in_range(self) -> bool
         ensures { result ≡ in_range_at self.entry.own.sheet.bytes.now self.entry.own.index }
     {
-        Fitted {
-            own: self.own.placed(),
-        }
-        .in_range()
+        let own = self.own.placed();
+        Fitted { own }.in_range()
     }
 }

@@ -1,4 +1,5 @@
--- A visit counts a number's diagram: a law a return of the code, and what a visit needs.
+-- A visit counts a number's diagram: a law a return of the code, what a visit needs, and what a caller that counts some
+-- diagrams learns (count_next).
 use Prim.Native.Nat.{ℕ, ◌+◌, ◌-◌, ◌*◌, ◌≤◌, ◌<◌}
 use native.Mathlib.Omega.{arith}
 use mathlib.Core.Path.{◌≡◌, refl, sym, ap, subst, ◌∙◌}
